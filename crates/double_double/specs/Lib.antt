@@ -1,0 +1,2 @@
+-- The definitions that the contracts of `double_double` cite.
+pub mod DoubleDouble

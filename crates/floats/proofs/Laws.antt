@@ -1,0 +1,4 @@
+-- Laws of the kit's account of IEEE 754, each stated once over the format where it holds for both.
+pub mod Nan
+pub mod Closest
+pub mod Place

@@ -1,0 +1,2 @@
+-- The definitions that the contracts of `floats` cite, and that the crates above it build on.
+pub mod Operations
