@@ -2,3 +2,6 @@
 pub mod Nan
 pub mod Closest
 pub mod Place
+pub mod Units
+pub mod Magnitude
+pub mod Narrow

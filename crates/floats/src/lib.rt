@@ -1,4 +1,5 @@
 // Floats by their bits: the pattern of a value and the value of a pattern, widening, narrowing, the
 // nearest whole value and two tests on bits. Every function is total and has no `requires`: each
 // is fixed by its value at every pattern, a NaN's included.
+pub mod narrowing;
 pub mod patterns;

@@ -1,0 +1,88 @@
+-- A pattern with no sign that is at most the infinity's: what it stands for (`read-magnitude`). And a value that is no NaN, by its pattern
+-- without the sign (`magnitude-of-bits`) and by the sign's bit (`sign-of-bits`). Assumes nothing.
+use mathlib.Core.Path.{_≡_, refl, sym, ap, _∙_, subst}
+use mathlib.Core.Logic.{_⊎_, inl, inr}
+use mathlib.Core.Bool.{Bool, true, false, not, cond}
+use Prim.Native.Nat.{ℕ, _+_, _*_, _/_, _%_, _^_, _≤_, _<_, suc}
+use native.Mathlib.Nat.{zero-add, le-trans, le-of-eq, lt-of-le-of-lt, mod-eq-of-lt, add-mod-left, mul-pos, zero-lt-suc}
+use native.Mathlib.Omega.{arith}
+use lib.Dec.{T, lit<, lit≤}
+use lib.IntN.{ℤ}
+use lib.Pow.{pow-pos}
+use lib.Ieee.{Float, nan, inf, fin, Format, binary32, binary64, prec, emax, low, hid, ones, top, fits, isNan, nanBits, toBits, ofBits}
+use lib.Ieee.Bits.{nanBits-is, ofBits-fits, ofBits-toBits, toBits-ofBits}
+use Rattle.floats.specs.OnBits.{absolute}
+use Rattle.floats.proofs.Laws.Nan.{number-of-below}
+use Rattle.floats.proofs.Laws.Place.{place, bits-of-inf}
+use Rattle.floats.proofs.Laws.Units.{exponent, bits-of-value, bits-of-sign, bits-under-top, fits-signed}
+
+-- the infinity's pattern has no sign
+pub inf-under-top : (f : Format) → ones f * hid f < top f
+inf-under-top binary32 = lit< tt
+inf-under-top binary64 = lit< tt
+
+-- ---- a pattern with no sign, up to the infinity's
+-- m stands for a finite value that is not negative: digits * 2 ^ power, whose place m is
+pub record Finite (f : Format) (m : ℕ) : Type 0 where
+  pub digits : ℕ
+  pub power : ℤ
+  pub is : ofBits f m ≡ fin false digits power
+  pub held : T (fits f (fin false digits power))
+  pub at : m ≡ place (prec f) (digits * 2 ^ exponent (low f) power)
+
+signed-over : (a b c : ℕ) → a < c → c + b ≡ a → ⊥
+signed-over a b c h e = omega arith
+
+under-twice : (a c : ℕ) → a < c → a < 2 * c
+under-twice a c h = omega arith
+
+pub read-magnitude : (f : Format) (m : ℕ) → m ≤ ones f * hid f → ((ofBits f m ≡ inf false) × (m ≡ ones f * hid f)) ⊎ Finite f m
+unfolding isNan
+read-magnitude f m h = go (ofBits f m) refl number (ofBits-fits f m) (toBits-ofBits f m (under-twice m (top f) small) number)
+  where
+    small : m < top f
+    small = lt-of-le-of-lt h (inf-under-top f)
+
+    infinite : m % top f ≤ ones f * hid f
+    infinite = subst (λ (x : ℕ). x ≤ ones f * hid f) (sym (mod-eq-of-lt small)) h
+
+    number : T (not (isNan (ofBits f m)))
+    number = subst (λ (b : Bool). T (not b)) (nanBits-is f m) (number-of-below f m infinite)
+
+    go : (x : Float) → ofBits f m ≡ x → T (not (isNan x)) → T (fits f x) → toBits f x ≡ m → ((ofBits f m ≡ inf false) × (m ≡ ones f * hid f)) ⊎ Finite f m
+    go nan e n t b = absurd n
+    go (inf true) e n t b = absurd (signed-over m (ones f * hid f) (top f) small (sym (bits-of-inf f true) ∙ b))
+    go (inf false) e n t b = inl (e, sym b ∙ bits-of-inf f false ∙ zero-add (ones f * hid f))
+    go (fin true d p) e n t b = absurd (signed-over m (toBits f (fin false d p)) (top f) small (sym (bits-of-sign f true d p t) ∙ b))
+    go (fin false d p) e n t b = inr (record {
+      digits = d;
+      power = p;
+      is = e;
+      held = t;
+      at = sym b ∙ bits-of-value f false d p t ∙ zero-add (place (prec f) (d * 2 ^ exponent (low f) p));
+    })
+
+-- ---- a value that is no NaN, by its pattern
+with-sign : (s : Bool) (c a : ℕ) → a < c → (cond s c 0 + a) % c ≡ a
+with-sign true c a h = add-mod-left c a ∙ mod-eq-of-lt h
+with-sign false c a h = ap (λ (x : ℕ). x % c) (zero-add a) ∙ mod-eq-of-lt h
+
+pub magnitude-of-bits : (f : Format) (x : Float) → T (fits f x) → T (not (isNan x)) → toBits f x % top f ≡ toBits f (absolute x)
+unfolding isNan absolute
+magnitude-of-bits f nan t n = absurd n
+magnitude-of-bits f (inf s) t n =
+    ap (λ (x : ℕ). x % top f) (bits-of-inf f s)
+    ∙ with-sign s (top f) (ones f * hid f) (inf-under-top f)
+    ∙ sym (bits-of-inf f false ∙ zero-add (ones f * hid f))
+magnitude-of-bits f (fin s m e) t n =
+    ap (λ (x : ℕ). x % top f) (bits-of-sign f s m e t)
+    ∙ with-sign s (top f) (toBits f (fin false m e)) (bits-under-top f m e (fits-signed f s false m e t))
+
+pub absolute-fits : (f : Format) (x : Float) → T (fits f x) → T (fits f (absolute x))
+unfolding absolute
+absolute-fits f nan t = t
+absolute-fits f (inf s) t = unfold fits in tt
+absolute-fits f (fin s m e) t = fits-signed f s false m e t
+
+pub magnitude-is : (f : Format) (x : Float) → T (fits f x) → T (not (isNan x)) → ofBits f (toBits f x % top f) ≡ absolute x
+magnitude-is f x t n = ap (ofBits f) (magnitude-of-bits f x t n) ∙ ofBits-toBits f (absolute x) (absolute-fits f x t)

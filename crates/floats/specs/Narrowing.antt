@@ -1,0 +1,18 @@
+-- Document 01, "Widening, narrowing, nearest whole". Each is fixed by its value for every pattern. Widening needs no definition: an f32 and
+-- the f64 of the same value are the same `Float`.
+use Prim.Native.Nat.{_*_}
+use lib.Ieee.{Float, nan, inf, fin, binary32, binary64, up, down, round}
+use lib.Ieee.Nearest.{closest}
+
+-- "Narrowing f64 to f32 is nearest, ties to even, with subnormals and overflow to infinity": the exact value, rounded once to binary32
+unfoldable pub narrowed : Float → Float
+narrowed nan = nan
+narrowed (inf s) = inf s
+narrowed (fin s m e) = round binary32 s (m * up e) (down e)
+
+-- "`round_ties_even` gives the nearest whole f64, ties to even, and keeps the sign of zero": the whole number nearest to the exact value,
+-- with the value's sign. An f64 holds that number (`nearest-whole-exact` in proofs/Laws/Whole.antt), so `round` changes nothing.
+unfoldable pub nearestWhole : Float → Float
+nearestWhole nan = nan
+nearestWhole (inf s) = inf s
+nearestWhole (fin s m e) = round binary64 s (closest (m * up e) (down e)) 1
