@@ -4,4 +4,6 @@ pub mod Closest
 pub mod Place
 pub mod Units
 pub mod Magnitude
+pub mod Rounding
+pub mod Order
 pub mod Narrow

@@ -23,7 +23,7 @@ use lib.Ieee.Scale.{grid, overflow}
 pub size-mono : (a b : ℕ) → a ≤ b → size a ≤ size b
 size-mono a b h = size-le a (size b) (lt-of-le-of-lt h (size-lt b))
 
-twice : (p : ℕ) → 0 < p → 2 ^ p ≡ 2 ^ (p - 1) + 2 ^ (p - 1)
+pub twice : (p : ℕ) → 0 < p → 2 ^ p ≡ 2 ^ (p - 1) + 2 ^ (p - 1)
 twice p h = ap (λ (x : ℕ). 2 ^ x) (back p h) ∙ pow-succ' 2 (p - 1) ∙ double (2 ^ (p - 1))
   where
     back : (p : ℕ) → 0 < p → p ≡ suc (p - 1)
