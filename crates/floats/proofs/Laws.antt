@@ -7,3 +7,5 @@ pub mod Magnitude
 pub mod Rounding
 pub mod Order
 pub mod Narrow
+pub mod Whole
+pub mod Integer

@@ -1,27 +1,24 @@
 // The nearest whole value, as `round_ties_even` of pxfm 0.1.30 has it (NOTICE). The source moves the
-// digits of the pattern; here the hardware's addition rounds, and the contract is the same.
+// digits of the pattern; here the hardware's addition rounds, and the value is the same.
+use crate::patterns::to_bits_f64;
+
 ghost use mathlib.Core.Path.{_≡_};
 ghost use Rattle.floats.specs.Narrowing.{nearestWhole};
 
-// The whole f64 nearest to x, ties to even, the sign of zero kept. An infinity is itself, and a NaN
-// gives the NaN.
+// The whole f64 nearest to x, ties to even, the sign of zero kept. An infinity and a NaN stay.
 pub fn round_ties_even(x: f64) -> f64
     ensures { λ r. ⌜ r ≡ nearestWhole x ⌝ }
 {
-    if x != x {
-        return 0.0 / 0.0;
-    }
-    let n = f64::to_bits(x);
-    // 2^52: from there up every f64 is whole, and up to 2^53 they are the whole numbers
-    let magic = 4503599627370496.0;
-    if n < 0x4330_0000_0000_0000 {
-        return x + magic - magic;
-    }
-    if n < 0x8000_0000_0000_0000 {
+    let n = to_bits_f64(x);
+    let m = n % 0x8000_0000_0000_0000;
+    // from 2^52 up every f64 is whole
+    if m >= 0x4330_0000_0000_0000 {
         return x;
     }
-    if n < 0xc330_0000_0000_0000 {
-        return -(magic - x - magic);
+    // from 2^52 to 2^53 the f64s are the whole numbers, so the sum is rounded to one
+    let w = f64::from_bits(m) + 4503599627370496.0 - 4503599627370496.0;
+    if n < 0x8000_0000_0000_0000 {
+        return w;
     }
-    x
+    -w
 }

@@ -3,13 +3,12 @@
 use mathlib.Core.Path.{_≡_, refl, sym, ap, _∙_, subst}
 use mathlib.Core.Logic.{_⊎_, inl, inr}
 use mathlib.Core.Bool.{Bool, true, false, not, cond}
-use Prim.Native.Nat.{ℕ, _+_, _*_, _/_, _%_, _^_, _≤_, _<_, suc}
-use native.Mathlib.Nat.{zero-add, le-trans, le-of-eq, lt-of-le-of-lt, mod-eq-of-lt, add-mod-left, mul-pos, zero-lt-suc}
+use Prim.Native.Nat.{ℕ, _+_, _*_, _%_, _^_, _≤_, _<_}
+use native.Mathlib.Nat.{zero-add, lt-of-le-of-lt, not-le-of-lt, mod-eq-of-lt, add-mod-left}
 use native.Mathlib.Omega.{arith}
-use lib.Dec.{T, lit<, lit≤}
+use lib.Dec.{T, lit<}
 use lib.IntN.{ℤ}
-use lib.Pow.{pow-pos}
-use lib.Ieee.{Float, nan, inf, fin, Format, binary32, binary64, prec, emax, low, hid, ones, top, fits, isNan, nanBits, toBits, ofBits}
+use lib.Ieee.{Float, nan, inf, fin, Format, binary32, binary64, prec, low, hid, ones, top, neg, fits, isNan, toBits, ofBits}
 use lib.Ieee.Bits.{nanBits-is, ofBits-fits, ofBits-toBits, toBits-ofBits}
 use Rattle.floats.specs.OnBits.{absolute}
 use Rattle.floats.proofs.Laws.Nan.{number-of-below}
@@ -86,3 +85,28 @@ absolute-fits f (fin s m e) t = fits-signed f s false m e t
 
 pub magnitude-is : (f : Format) (x : Float) → T (fits f x) → T (not (isNan x)) → ofBits f (toBits f x % top f) ≡ absolute x
 magnitude-is f x t n = ap (ofBits f) (magnitude-of-bits f x t n) ∙ ofBits-toBits f (absolute x) (absolute-fits f x t)
+
+-- a NaN's pattern, as it is written, has no sign either
+pub absolute-of-bits : (f : Format) (x : Float) → T (fits f x) → ofBits f (toBits f x % top f) ≡ absolute x
+unfolding absolute toBits ofBits isNan
+absolute-of-bits binary32 nan t = refl
+absolute-of-bits binary64 nan t = refl
+absolute-of-bits f (inf s) t = magnitude-is f (inf s) t tt
+absolute-of-bits f (fin s m e) t = magnitude-is f (fin s m e) t tt
+
+-- ---- the sign's bit
+pub clear-sign : (f : Format) (x : Float) → T (fits f x) → T (not (isNan x)) → toBits f x < top f → absolute x ≡ x
+unfolding absolute isNan
+clear-sign f nan t n h = absurd n
+clear-sign f (inf true) t n h = absurd (signed-over (toBits f (inf true)) (ones f * hid f) (top f) h (sym (bits-of-inf f true)))
+clear-sign f (inf false) t n h = refl
+clear-sign f (fin true m e) t n h = absurd (signed-over (toBits f (fin true m e)) (toBits f (fin false m e)) (top f) h (sym (bits-of-sign f true m e t)))
+clear-sign f (fin false m e) t n h = refl
+
+pub set-sign : (f : Format) (x : Float) → T (fits f x) → T (not (isNan x)) → top f ≤ toBits f x → neg (absolute x) ≡ x
+unfolding absolute isNan neg
+set-sign f nan t n h = absurd n
+set-sign f (inf true) t n h = refl
+set-sign f (inf false) t n h = absurd (not-le-of-lt (inf-under-top f) (subst (λ (x : ℕ). top f ≤ x) (bits-of-inf f false ∙ zero-add (ones f * hid f)) h))
+set-sign f (fin true m e) t n h = refl
+set-sign f (fin false m e) t n h = absurd (not-le-of-lt (bits-under-top f m e t) h)

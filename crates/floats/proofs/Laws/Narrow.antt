@@ -18,42 +18,20 @@ use lib.Ieee.Fits.{down-pos, round-fits}
 use lib.Ieee.Nearest.{closest, closest-same, closest-mono}
 use lib.Ieee.Order.{drop}
 use Rattle.floats.proofs.Laws.Closest.{closest-add-even, closest-by-adding}
-use Rattle.floats.proofs.Laws.Place.{place, place-mono, size-exact, round-bits, pattern}
+use Rattle.floats.proofs.Laws.Place.{place, under-place, over-place, size-exact, round-bits, pattern}
 use Rattle.floats.proofs.Laws.Units.{written, written-same, pattern-is, exponent, in-units, fits-digits, fits-signed, bits-of-sign, bits-under-top, round-number}
 use Rattle.floats.proofs.Laws.Magnitude.{Finite, read-magnitude, magnitude-is}
 use Rattle.floats.specs.Narrowing.{narrowed}
 use Rattle.floats.specs.OnBits.{absolute}
 
--- ---- the smallest normal f32, in units of the f64
-place-of-least : place 53 (2 ^ 948) ≡ 897 * 2 ^ 52
+-- ---- the smallest normal f32, 2 ^ -126, in units of the f64
+low-units : (X m : ℕ) → m ≡ place 53 X → m < 897 * 2 ^ 52 → X < 2 ^ 948
 unfolding size
-place-of-least = refl
+low-units X m e h = under-place 53 X (2 ^ 948) (lit< tt) (lt-of-le-of-lt (le-of-eq (sym e)) h)
 
-place-under-least : place 53 (2 ^ 948 - 1) ≡ 897 * 2 ^ 52 - 1
+normal-units : (X m : ℕ) → m ≡ place 53 X → 897 * 2 ^ 52 ≤ m → 2 ^ 948 ≤ X
 unfolding size
-place-under-least = refl
-
-contra-lt : (a b c : ℕ) → a < b → b ≤ c → c ≤ a → ⊥
-contra-lt a b c h k l = omega arith
-
-pub low-units : (X m : ℕ) → m ≡ place 53 X → m < 897 * 2 ^ 52 → X < 2 ^ 948
-low-units X m e h =
-    lt-of-not-le
-    (λ (g : 2 ^ 948 ≤ X). contra-lt m (897 * 2 ^ 52) (place 53 X) h (le-trans (le-of-eq (sym place-of-least)) (place-mono 53 (2 ^ 948) X (lit< tt) g)) (le-of-eq (sym e)))
-
-at-most-less : (x y : ℕ) → x < y → x ≤ y - 1
-at-most-less x y h = omega arith
-
-contra-le : (a b c : ℕ) → 0 < b → a ≤ b - 1 → c ≡ a → b ≤ c → ⊥
-contra-le a b c p h e l = omega arith
-
-pub normal-units : (X m : ℕ) → m ≡ place 53 X → 897 * 2 ^ 52 ≤ m → 2 ^ 948 ≤ X
-normal-units X m e h =
-    le-of-suc-le-suc
-    (lt-of-not-le
-    (λ (g : X < 2 ^ 948).
-    contra-le (place 53 X) (897 * 2 ^ 52) m (lit< tt)
-    (le-trans (place-mono 53 X (2 ^ 948 - 1) (lit< tt) (at-most-less X (2 ^ 948) g)) (le-of-eq place-under-least)) e h))
+normal-units X m e h = over-place 53 X (2 ^ 948) (lit< tt) (lit< tt) (le-trans h (le-of-eq e))
 
 -- ---- below it nothing is dropped
 none : (z : ℕ) → z ≤ 23 → z - 24 ≡ 0

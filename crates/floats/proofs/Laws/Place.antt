@@ -6,7 +6,7 @@ use mathlib.Core.Path.{_≡_, refl, sym, ap, _∙_, subst}
 use mathlib.Core.Logic.{_⊎_, inl, inr}
 use mathlib.Core.Bool.{Bool, true, false, not, cond}
 use Prim.Native.Nat.{ℕ, suc, _+_, _-_, _*_, _/_, _%_, _^_, _≤_, _<_, min, compare, zero-le}
-use native.Mathlib.Nat.{le-refl, le-trans, le-of-eq, le-of-lt, lt-of-lt-of-le, lt-of-le-of-lt, eq-or-lt-of-le, le-antisymm, eq-zero-or-pos, add-assoc, zero-add, mul-one, one-mul, mul-comm, mul-assoc, mul-le-mul-right, le-div-iff-mul-le, div-one, div-div-eq-div-mul, mul-div-cancel, mul-pos, pow-succ', add-le-add, lt-of-not-le, lt-irrefl}
+use native.Mathlib.Nat.{le-refl, le-trans, le-of-eq, le-of-lt, lt-of-lt-of-le, lt-of-le-of-lt, eq-or-lt-of-le, le-antisymm, eq-zero-or-pos, add-assoc, zero-add, mul-one, one-mul, mul-comm, mul-assoc, mul-le-mul-right, le-div-iff-mul-le, div-one, div-div-eq-div-mul, mul-div-cancel, mul-pos, pow-succ', add-le-add, lt-of-not-le, not-le-of-lt, le-of-suc-le-suc, lt-irrefl}
 use native.Mathlib.Omega.{arith}
 use lib.Dec.{T, ltb, ltb→lt, nltb→le, lit<}
 use lib.IntN.{ℤ}
@@ -70,6 +70,16 @@ place-mono p a b P h = go (eq-or-lt-of-le (fewer (size a) (size b) p (size-mono 
         under (size a - p) (size b - p) (2 ^ (p - 1)) (a / 2 ^ (size a - p)) (b / 2 ^ (size b - p)) l
         (subst (λ (x : ℕ). a / 2 ^ (size a - p) < x) (twice p P) (kept-lt p a))
         (kept-lead p b P (lt-of-le-of-lt zero-le l))
+
+-- so places tell of magnitudes: below the place of T is below T, and from it up, where T - 1 has a smaller place, is from T up
+pub under-place : (p X T : ℕ) → 0 < p → place p X < place p T → X < T
+under-place p X T P h = lt-of-not-le (λ (g : T ≤ X). not-le-of-lt h (place-mono p T X P g))
+
+pub over-place : (p X T : ℕ) → 0 < p → place p (T - 1) < place p T → place p T ≤ place p X → T ≤ X
+over-place p X T P s h = le-of-suc-le-suc (lt-of-not-le (λ (g : X < T). not-le-of-lt (lt-of-le-of-lt (place-mono p X (T - 1) P (less X T g)) s) h))
+  where
+    less : (x y : ℕ) → x < y → x ≤ y - 1
+    less x y h = omega arith
 
 -- ---- the place of q * 2 ^ k, for a q of at most p digits that has all p where k is not 0
 place-at : (p q k : ℕ) → size (q * 2 ^ k) - p ≡ k → place p (q * 2 ^ k) ≡ k * 2 ^ (p - 1) + q

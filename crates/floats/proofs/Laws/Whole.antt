@@ -1,0 +1,196 @@
+-- Why the nearest whole value comes out of an addition. From 2 ^ 52 to 2 ^ 53 the f64s are the whole numbers, so for |x| below 2 ^ 52 the sum
+-- |x| + 2 ^ 52 is rounded to a whole number, ties to even, and taking 2 ^ 52 off again is exact (`low-whole`). From 2 ^ 52 up every f64
+-- is whole (`high-whole`). An f64 holds the nearest whole number (`nearest-whole-exact`). Assumes nothing.
+use mathlib.Core.Path.{_≡_, refl, sym, ap, _∙_, subst}
+use mathlib.Core.Logic.{_⊎_, inl, inr}
+use mathlib.Core.Bool.{Bool, true, false, not, cond}
+use Prim.Native.Nat.{ℕ, suc, _+_, _-_, _*_, _/_, _%_, _^_, _≤_, _<_}
+use native.Mathlib.Nat.{le-trans, le-of-eq, le-of-lt, lt-of-lt-of-le, lt-of-le-of-lt, lt-of-not-le, not-le-of-lt, mul-one, one-mul, mul-comm, mul-assoc, mul-right-comm, mul-le-mul-left, mul-le-mul-right, mul-lt-mul-of-pos-right, lt-of-mul-lt-mul-right, mul-pos, eq-of-mul-eq-mul-right, div-lt-iff-lt-mul, le-div-iff-mul-le, sub-le}
+use native.Mathlib.Omega.{arith}
+use lib.Dec.{T, ltb, lit<, lit≤}
+use lib.Arith.{le→nltb}
+use lib.IntN.{ℤ, pos, negsuc}
+use lib.Pow.{pow-add, pow-pos, pow-mono, shl-lt}
+use lib.Ieee.{Float, nan, inf, fin, binary64, low, up, down, size, round, neg, add, sub, sum, fits, isNan, top, toBits, ofBits}
+use lib.Ieee.Back.{round-whole}
+use lib.Ieee.Bits.{cond-no}
+use lib.Ieee.Exact.{HasValue}
+use lib.Ieee.Fits.{down-pos, up-pos}
+use lib.Ieee.Nearest.{closest, closest-same, closest-mono}
+use lib.Ieee.Order.{drop, kept}
+use lib.Ieee.Scale.{round-same, grid, overflow}
+use Rattle.floats.specs.Narrowing.{nearestWhole}
+use Rattle.floats.specs.OnBits.{absolute}
+use Rattle.floats.proofs.Laws.Closest.{closest-add-even, closest-one}
+use Rattle.floats.proofs.Laws.Place.{place, under-place, over-place, size-exact, bits-of-inf}
+use Rattle.floats.proofs.Laws.Units.{exponent, in-units, fits-digits, fits-signed, round-number}
+use Rattle.floats.proofs.Laws.Magnitude.{magnitude-of-bits, absolute-of-bits, clear-sign, set-sign}
+use Rattle.floats.proofs.Laws.Order.{bits-of-clear}
+use Rattle.floats.proofs.Laws.Rounding.{round-value, round-self, neg-round}
+
+-- ---- 2 ^ 52, by units and by patterns
+low-units : (X m : ℕ) → m ≡ place 53 X → m < 1075 * 2 ^ 52 → X < 2 ^ 1126
+unfolding size
+low-units X m e h = under-place 53 X (2 ^ 1126) (lit< tt) (lt-of-le-of-lt (le-of-eq (sym e)) h)
+
+high-units : (X m : ℕ) → m ≡ place 53 X → 1075 * 2 ^ 52 ≤ m → 2 ^ 1126 ≤ X
+unfolding size
+high-units X m e h = over-place 53 X (2 ^ 1126) (lit< tt) (lit< tt) (le-trans h (le-of-eq e))
+
+-- ---- a / c + 2 ^ 52, for a / c below 2 ^ 52, rounds to a whole number
+module _ (a c : ℕ) (C : 0 < c) (small : a < 2 ^ 52 * c) where
+  sum-drop : drop 53 ((a + 2 ^ 52 * c) * 2 ^ 1074) c ≡ 1074
+  sum-drop =
+      ap (λ (z : ℕ). z - 53)
+      (size-exact 1126 ((a + 2 ^ 52 * c) * 2 ^ 1074 / c)
+      (le-div-iff-mul-le C .1 (scaled-le (2 ^ 52) (2 ^ 1074) c (a + 2 ^ 52 * c) (with-more a (2 ^ 52 * c))))
+      (div-lt-iff-lt-mul C .1 (scaled-lt (2 ^ 53) (2 ^ 1074) c (a + 2 ^ 52 * c) (pow-pos 1074) (twice-under a (2 ^ 52) c small))))
+    where
+      with-more : (x y : ℕ) → y ≤ x + y
+      with-more x y = omega arith
+
+      twice-under : (x k c : ℕ) → x < k * c → x + k * c < (k + k) * c
+      twice-under x k c h = omega arith
+
+      scaled-le : (k l c x : ℕ) → k * c ≤ x → k * l * c ≤ x * l
+      scaled-le k l c x h = le-trans (le-of-eq (mul-right-comm k l c)) (mul-le-mul-right l h)
+
+      scaled-lt : (k l c x : ℕ) → 0 < l → x < k * c → x * l < k * l * c
+      scaled-lt k l c x L h = lt-of-lt-of-le (mul-lt-mul-of-pos-right h L) (le-of-eq (mul-right-comm k c l))
+
+  sum-grid : grid binary64 (a + 2 ^ 52 * c) c ≡ (closest a c + 2 ^ 52) * 2 ^ 1074
+  sum-grid =
+      ap (λ (k : ℕ). closest ((a + 2 ^ 52 * c) * 2 ^ 1074) (c * 2 ^ k) * 2 ^ k) sum-drop
+      ∙ ap (λ (x : ℕ). x * 2 ^ 1074)
+      (closest-same ((a + 2 ^ 52 * c) * 2 ^ 1074) (c * 2 ^ 1074) (a + 2 ^ 52 * c) c (mul-pos C (pow-pos 1074)) C (regroup (a + 2 ^ 52 * c) (2 ^ 1074) c)
+      ∙ closest-add-even a c (2 ^ 52) C refl)
+    where
+      regroup : (x l c : ℕ) → x * l * c ≡ x * (c * l)
+      regroup x l c = mul-assoc x l c ∙ ap (λ (y : ℕ). x * y) (mul-comm l c)
+
+  whole-le : closest a c ≤ 2 ^ 52
+  whole-le = closest-mono a c (2 ^ 52) 1 C (lit< tt) (le-trans (le-of-eq (mul-one a)) (le-of-lt small))
+
+  sum-fits : (closest a c + 2 ^ 52) * 2 ^ 1074 < overflow binary64
+  sum-fits = lt-of-le-of-lt (mul-le-mul-right (2 ^ 1074) (more (closest a c) (2 ^ 52) whole-le)) (lit< tt)
+    where
+      more : (x y : ℕ) → x ≤ y → x + y ≤ y + y
+      more x y h = omega arith
+
+  sum-value : HasValue (round binary64 false (a + 2 ^ 52 * c) c) false ((closest a c + 2 ^ 52) * 2 ^ 1074) (2 ^ 1074)
+  sum-value =
+      subst (λ (g : ℕ). HasValue (round binary64 false (a + 2 ^ 52 * c) c) false g (2 ^ 1074)) sum-grid
+      (round-value binary64 false (a + 2 ^ 52 * c) c (subst (λ (g : ℕ). g < overflow binary64) (sym sum-grid) sum-fits))
+
+-- ---- and 2 ^ 52 taken off it leaves the whole number
+whole-left : (x q d : ℕ) → x ≡ (q + 2 ^ 52) * d → (x * 1 - 1 * 2 ^ 52 * d) * 1 ≡ q * (d * 1)
+whole-left x q d e = omega arith
+
+over-52 : (x q d : ℕ) → x ≡ (q + 2 ^ 52) * d → 1 * 2 ^ 52 * d ≤ x * 1
+over-52 x q d e = omega arith
+
+less-52 : (y : Float) (q : ℕ) → HasValue y false ((q + 2 ^ 52) * 2 ^ 1074) (2 ^ 1074) → sub binary64 y (ofBits binary64 0x4330000000000000) ≡ round binary64 false q 1
+unfolding sub add sum neg ofBits
+less-52 nan q v = absurd v
+less-52 (inf s) q v = absurd v
+less-52 (fin t m e) q v = subst (λ (s : Bool). sub binary64 (fin s m e) (ofBits binary64 0x4330000000000000) ≡ round binary64 false q 1) (sym (v .0)) at-clear
+  where
+    x-is : m * up e ≡ (q + 2 ^ 52) * down e
+    x-is = eq-of-mul-eq-mul-right (2 ^ 1074) (pow-pos 1074) (m * up e) ((q + 2 ^ 52) * down e) (v .1 ∙ mul-right-comm (q + 2 ^ 52) (2 ^ 1074) (down e))
+
+    at-clear : sub binary64 (fin false m e) (ofBits binary64 0x4330000000000000) ≡ round binary64 false q 1
+    at-clear =
+        cond-no (ltb (m * up e * 1) (1 * 2 ^ 52 * down e)) (round binary64 true (1 * 2 ^ 52 * down e - m * up e * 1) (down e * 1)) (round binary64 false (m * up e * 1 - 1 * 2 ^ 52 * down e) (down e * 1))
+        (le→nltb (m * up e * 1) (1 * 2 ^ 52 * down e) (over-52 (m * up e) q (down e) x-is))
+        ∙ round-same binary64 false (m * up e * 1 - 1 * 2 ^ 52 * down e) (down e * 1) q 1 (mul-pos (down-pos e) (lit< tt)) (lit< tt) (whole-left (m * up e) q (down e) x-is)
+
+-- ---- |x| below 2 ^ 52
+sum-cross : (x d k : ℕ) → (x * 1 + 1 * k * d) * d ≡ (x + k * d) * (d * 1)
+sum-cross x d k = omega arith
+
+low-finite : (m : ℕ) (e : ℤ) → T (fits binary64 (fin false m e)) → m * 2 ^ exponent 1074 e < 2 ^ 1126
+    → sub binary64 (add binary64 (fin false m e) (ofBits binary64 0x4330000000000000)) (ofBits binary64 0x4330000000000000) ≡ round binary64 false (closest (m * up e) (down e)) 1
+unfolding add sum ofBits
+low-finite m e t h =
+    let a = m * up e in
+    let d = down e in
+    let small : a < 2 ^ 52 * d =
+    lt-of-mul-lt-mul-right (2 ^ 1074)
+    (subst (λ (x : ℕ). x < 2 ^ 52 * d * 2 ^ 1074) (sym (in-units binary64 false m e t)) (lt-of-lt-of-le (mul-lt-mul-of-pos-right h (down-pos e)) (le-of-eq (mul-right-comm (2 ^ 52) (2 ^ 1074) d)))) in
+    ap (λ (y : Float). sub binary64 y (ofBits binary64 0x4330000000000000)) (round-same binary64 false (a * 1 + 1 * 2 ^ 52 * d) (d * 1) (a + 2 ^ 52 * d) d (mul-pos (down-pos e) (lit< tt)) (down-pos e) (sum-cross a d (2 ^ 52)))
+    ∙ less-52 (round binary64 false (a + 2 ^ 52 * d) d) (closest a d) (sum-value a d (down-pos e) small)
+
+high-inf : 0x7ff0000000000000 < 1075 * 2 ^ 52 → ⊥
+high-inf h = omega arith
+
+pub low-whole : (x : Float) → T (fits binary64 x) → T (not (isNan x)) → toBits binary64 x % 2 ^ 63 < 1075 * 2 ^ 52
+    → sub binary64 (add binary64 (absolute x) (ofBits binary64 0x4330000000000000)) (ofBits binary64 0x4330000000000000) ≡ nearestWhole (absolute x)
+unfolding absolute nearestWhole isNan
+low-whole nan t n h = absurd n
+low-whole (inf s) t n h = absurd (high-inf (subst (λ (m : ℕ). m < 1075 * 2 ^ 52) (magnitude-of-bits binary64 (inf s) t n ∙ bits-of-inf binary64 false) h))
+low-whole (fin s m e) t n h =
+    let u : T (fits binary64 (fin false m e)) = fits-signed binary64 s false m e t in
+    low-finite m e u (low-units (m * 2 ^ exponent 1074 e) (toBits binary64 (fin s m e) % 2 ^ 63) (magnitude-of-bits binary64 (fin s m e) t n ∙ bits-of-clear binary64 m e u) h)
+
+-- ---- from 2 ^ 52 up every f64 is whole
+below-52 : (m k : ℕ) → m < 2 ^ 53 → 2 ^ 1126 ≤ m * 2 ^ (1074 - suc k) → ⊥
+below-52 m k h g =
+    not-le-of-lt (lt-of-lt-of-le (shl-lt 53 (1074 - suc k) h) (pow-mono (within k))) g
+  where
+    within : (k : ℕ) → 53 + (1074 - suc k) ≤ 1126
+    within k = omega arith
+
+high-finite : (s : Bool) (m : ℕ) (e : ℤ) → T (fits binary64 (fin s m e)) → 2 ^ 1126 ≤ m * 2 ^ exponent 1074 e → round binary64 s (closest (m * up e) (down e)) 1 ≡ fin s m e
+high-finite s m (pos k) t h = ap (λ (x : ℕ). round binary64 s x 1) (closest-one (m * 2 ^ k)) ∙ round-self binary64 s m (pos k) t
+high-finite s m (negsuc k) t h = absurd (below-52 m k (fits-digits binary64 s m (negsuc k) t) h)
+
+pub high-whole : (x : Float) → T (fits binary64 x) → 1075 * 2 ^ 52 ≤ toBits binary64 x % 2 ^ 63 → nearestWhole x ≡ x
+unfolding nearestWhole isNan absolute
+high-whole nan t h = refl
+high-whole (inf s) t h = refl
+high-whole (fin s m e) t h =
+    let u : T (fits binary64 (fin false m e)) = fits-signed binary64 s false m e t in
+    high-finite s m e t (high-units (m * 2 ^ exponent 1074 e) (toBits binary64 (fin s m e) % 2 ^ 63) (magnitude-of-bits binary64 (fin s m e) t tt ∙ bits-of-clear binary64 m e u) h)
+
+-- ---- the sign goes through
+pub whole-neg : (x : Float) → neg (nearestWhole x) ≡ nearestWhole (neg x)
+unfolding nearestWhole neg
+whole-neg nan = refl
+whole-neg (inf s) = refl
+whole-neg (fin s m e) = neg-round binary64 s (closest (m * up e) (down e)) 1
+
+-- ---- the two ways of the code, by the pattern n of x
+pub low-number : (x : Float) → toBits binary64 x % 2 ^ 63 < 1075 * 2 ^ 52 → T (not (isNan x))
+unfolding isNan toBits
+low-number nan h = absurd (not-le-of-lt h (lit≤ tt))
+low-number (inf s) h = tt
+low-number (fin s m e) h = tt
+
+-- |x| + 2 ^ 52 - 2 ^ 52
+abbrev pub byAdding : ℕ → Float
+byAdding m = sub binary64 (add binary64 (ofBits binary64 m) (ofBits binary64 0x4330000000000000)) (ofBits binary64 0x4330000000000000)
+
+module _ (x : Float) (t : T (fits binary64 x)) (h : toBits binary64 x % 2 ^ 63 < 1075 * 2 ^ 52) where
+  by-adding : byAdding (toBits binary64 x % 2 ^ 63) ≡ nearestWhole (absolute x)
+  by-adding =
+      ap (λ (y : Float). sub binary64 (add binary64 y (ofBits binary64 0x4330000000000000)) (ofBits binary64 0x4330000000000000)) (absolute-of-bits binary64 x t)
+      ∙ low-whole x t (low-number x h) h
+
+  pub clear-whole : toBits binary64 x < 2 ^ 63 → byAdding (toBits binary64 x % 2 ^ 63) ≡ nearestWhole x
+  clear-whole k = by-adding ∙ ap nearestWhole (clear-sign binary64 x t (low-number x h) k)
+
+  pub signed-whole : 2 ^ 63 ≤ toBits binary64 x → neg (byAdding (toBits binary64 x % 2 ^ 63)) ≡ nearestWhole x
+  signed-whole k = ap neg by-adding ∙ whole-neg (absolute x) ∙ ap nearestWhole (set-sign binary64 x t (low-number x h) k)
+
+-- ---- an f64 holds the nearest whole number
+pub nearest-whole-exact : (s : Bool) (m : ℕ) (e : ℤ) → T (fits binary64 (fin s m e)) → HasValue (nearestWhole (fin s m e)) s (closest (m * up e) (down e)) 1
+unfolding nearestWhole
+nearest-whole-exact s m (pos k) t =
+    subst (λ (x : Float). HasValue x s (closest (m * 2 ^ k) 1) 1) (sym (ap (λ (x : ℕ). round binary64 s x 1) (closest-one (m * 2 ^ k)) ∙ round-self binary64 s m (pos k) t))
+    (refl, ap (λ (x : ℕ). x * 1) (sym (closest-one (m * 2 ^ k))))
+nearest-whole-exact s m (negsuc k) t =
+    round-whole binary64 s (closest (m * 1) (2 ^ suc k))
+    (le-trans (closest-mono (m * 1) (2 ^ suc k) (2 ^ 53) 1 (pow-pos (suc k)) (lit< tt) (le-trans (over m (fits-digits binary64 s m (negsuc k) t)) (mul-le-mul-left (2 ^ 53) (pow-pos (suc k))))) (le-of-eq (closest-one (2 ^ 53))))
+  where
+    over : (m : ℕ) → m < 2 ^ 53 → m * 1 * 1 ≤ 2 ^ 53 * 1
+    over m h = omega arith
