@@ -7,7 +7,6 @@ infixl 6 _⊕_
 infixl 6 _⊖_
 infixl 7 _⊗_
 infixl 7 _⊘_
-
 -- a + b
 abbrev pub _⊕_ : Float → Float → Float
 a ⊕ b = add binary64 a b

@@ -4,7 +4,6 @@ use crate::patterns::from_bits_f32;
 use crate::patterns::from_bits_f64;
 use crate::patterns::to_bits_f32;
 use crate::patterns::to_bits_f64;
-
 ghost use mathlib.Core.Path.{_≡_};
 ghost use lib.Ieee.{binary32, ofBits};
 ghost use Rattle.floats.specs.OnBits.{absolute, isInteger};

@@ -1,7 +1,6 @@
 // The nearest whole value, as `round_ties_even` of pxfm 0.1.30 has it (NOTICE). The source moves the
 // digits of the pattern; here the hardware's addition rounds, and the value is the same.
 use crate::patterns::to_bits_f64;
-
 ghost use mathlib.Core.Path.{_≡_};
 ghost use Rattle.floats.specs.Narrowing.{nearestWhole};
 
