@@ -187,10 +187,10 @@ place-of-rounded f a c =
     let p = prec f in
     place-of-grid p (kept p n c) (drop p n c) (two-le-pos p (two f)) (kept-le p n c) (kept-ge p n c (two-le-pos p (two f)))
 
-least : (a b : ℕ) → a ≤ b → a ≡ min a b
+pub least : (a b : ℕ) → a ≤ b → a ≡ min a b
 least a b h = omega arith
 
-greatest : (a b : ℕ) → b ≤ a → b ≡ min a b
+pub greatest : (a b : ℕ) → b ≤ a → b ≡ min a b
 greatest a b h = omega arith
 
 bits-of-units-cut : (f : Format) (s : Bool) (q k : ℕ) → toBits f (units f s q k) ≡ cond s (top f) 0 + min (place (prec f) (q * 2 ^ k)) (ones f * hid f)
