@@ -2,11 +2,11 @@
 -- digit among the digits, so it is whole where the zeros at their end make up for the negative exponent (`integer-of-bits`). Assumes nothing.
 use mathlib.Core.Path.{_≡_, refl, sym, ap, _∙_, subst}
 use mathlib.Core.Logic.{_⊎_, inl, inr}
-use mathlib.Core.Bool.{Bool, true, false, not, _&&_, cond}
+use mathlib.Core.Bool.{Bool, true, false, _&&_, cond}
 use Prim.Native.Nat.{ℕ, zero, suc, _+_, _-_, _*_, _/_, _%_, _^_, _≤_, _<_}
 use native.Mathlib.Nat.{le-of-lt, lt-of-lt-of-le, lt-irrefl, zero-lt-suc, le-of-suc-le-suc, eq-or-lt-of-le, mul-one, mul-pos, mod-one, mod-mod-of-dvd, dvd-mul-right, pow-suc, pow-succ', div-lt-iff-lt-mul, add-comm, suc-add, zero-mul, mod-lt}
 use native.Mathlib.Omega.{arith}
-use lib.Dec.{T, leb, ltb, eqb, eqb→eq, not-T, le→leb, leb·suc-suc, lit<, lit≤}
+use lib.Dec.{T, leb, ltb, eqb, eqb→eq, not-T, le→leb, leb·suc-suc, lit≤}
 use lib.Arith.{lt→nleb}
 use lib.IntN.{ℤ, pos, negsuc}
 use lib.Pow.{pow-pos, pow-mono, shl-lt, field}

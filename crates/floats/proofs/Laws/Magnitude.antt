@@ -94,6 +94,10 @@ absolute-of-bits binary64 nan t = refl
 absolute-of-bits f (inf s) t = magnitude-is f (inf s) t tt
 absolute-of-bits f (fin s m e) t = magnitude-is f (fin s m e) t tt
 
+-- what `absf` and `abs` are made of: n is the pattern of x, and r the value of n without its sign
+pub absolute-by-bits : (f : Format) (x : Float) (n : ℕ) (r : Float) → T (fits f x) → n ≡ toBits f x → r ≡ ofBits f (n % top f) → r ≡ absolute x
+absolute-by-bits f x n r t p q = q ∙ ap (λ (k : ℕ). ofBits f (k % top f)) p ∙ absolute-of-bits f x t
+
 -- ---- the sign's bit
 pub clear-sign : (f : Format) (x : Float) → T (fits f x) → T (not (isNan x)) → toBits f x < top f → absolute x ≡ x
 unfolding absolute isNan

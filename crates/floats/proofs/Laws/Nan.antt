@@ -3,10 +3,10 @@
 use mathlib.Core.Path.{_≡_, refl, sym, ap, _∙_, subst}
 use mathlib.Core.Bool.{Bool, true, false, not}
 use Prim.Native.Nat.{ℕ, _+_, _*_, _/_, _%_, _≤_, _<_}
-use lib.Dec.{T, ltb, lt→ltb, T-not}
+use lib.Dec.{T, lt→ltb}
 use lib.Arith.{le→nltb}
 use lib.Ieee.{Float, nan, inf, fin, Format, hid, ones, top, isNan, nanBits, ofBits, toBits, ne}
-use lib.Ieee.Bits.{nanBits-is, nanBits-above, is-true}
+use lib.Ieee.Bits.{nanBits-is, nanBits-above}
 use lib.Ieee.Compare.{differs-from-itself}
 
 pub nan-of-differs : (x : Float) → ne x x ≡ true → x ≡ nan

@@ -6,34 +6,24 @@ use mathlib.Core.Path.{_≡_, refl, sym, ap, _∙_, subst}
 use mathlib.Core.Logic.{_⊎_, inl, inr}
 use mathlib.Core.Bool.{Bool, true, false, not, cond}
 use Prim.Native.Nat.{ℕ, suc, _+_, _-_, _*_, _/_, _%_, _^_, _≤_, _<_, min}
-use native.Mathlib.Nat.{le-trans, le-of-eq, le-of-lt, lt-of-lt-of-le, lt-of-le-of-lt, lt-of-not-le, not-le-of-lt, le-of-suc-le-suc, lt-irrefl, mul-comm, mul-assoc, mul-one, one-mul, zero-add, add-mul, mul-left-comm, mul-right-comm, mul-pos, div-lt-iff-lt-mul, le-div-iff-mul-le, mul-div-cancel, div-one, mul-lt-mul-of-pos-right, zero-lt-suc}
+use native.Mathlib.Nat.{le-trans, le-of-eq, le-of-lt, lt-of-lt-of-le, lt-of-le-of-lt, lt-of-not-le, not-le-of-lt, mul-comm, mul-assoc, mul-one, zero-add, mul-pos, div-lt-iff-lt-mul, le-div-iff-mul-le, mul-div-cancel, div-one}
 use native.Mathlib.Omega.{arith}
 use lib.Dec.{T, lit<, lit≤, nltb→le}
 use lib.IntN.{ℤ}
 use lib.Pow.{pow-add, pow-pos, pow-mono, shl-lt}
-use lib.Ieee.{Float, nan, inf, fin, binary32, binary64, low, up, down, hid, ones, top, size, round, add, sum, fits, isNan, nanBits, toBits, ofBits}
-use lib.Ieee.Bits.{nanBits-is, nanBits-above, is-false, ofBits-toBits, toBits-lt}
+use lib.Ieee.{Float, nan, inf, fin, binary32, binary64, up, down, size, round, add, sum, fits, isNan, nanBits, toBits, ofBits}
+use lib.Ieee.Bits.{nanBits-is, nanBits-above, ofBits-toBits, toBits-lt}
 use lib.Ieee.Digits.{size-lt, size-le, size-reaches}
 use lib.Ieee.Fits.{down-pos, round-fits}
 use lib.Ieee.Nearest.{closest, closest-same, closest-mono}
-use lib.Ieee.Order.{drop}
 use Rattle.floats.proofs.Laws.Closest.{closest-add-even, closest-by-adding}
-use Rattle.floats.proofs.Laws.Place.{place, under-place, over-place, size-exact, round-bits, pattern}
-use Rattle.floats.proofs.Laws.Units.{written, written-same, pattern-is, exponent, in-units, fits-digits, fits-signed, bits-of-sign, bits-under-top, round-number}
+use Rattle.floats.proofs.Laws.Place.{place, units-below, units-above, size-exact, round-bits, pattern}
+use Rattle.floats.proofs.Laws.Units.{written, written-same, exponent, in-units, fits-digits, fits-signed, bits-of-sign, bits-under-top, round-number}
 use Rattle.floats.proofs.Laws.Magnitude.{Finite, read-magnitude, magnitude-is}
 use Rattle.floats.specs.Narrowing.{narrowed}
 use Rattle.floats.specs.OnBits.{absolute}
 
--- ---- the smallest normal f32, 2 ^ -126, in units of the f64
-low-units : (X m : ℕ) → m ≡ place 53 X → m < 897 * 2 ^ 52 → X < 2 ^ 948
-unfolding size
-low-units X m e h = under-place 53 X (2 ^ 948) (lit< tt) (lt-of-le-of-lt (le-of-eq (sym e)) h)
-
-normal-units : (X m : ℕ) → m ≡ place 53 X → 897 * 2 ^ 52 ≤ m → 2 ^ 948 ≤ X
-unfolding size
-normal-units X m e h = over-place 53 X (2 ^ 948) (lit< tt) (lit< tt) (le-trans h (le-of-eq e))
-
--- ---- below it nothing is dropped
+-- ---- below the smallest normal f32, which is 2 ^ 948 units, nothing is dropped
 none : (z : ℕ) → z ≤ 23 → z - 24 ≡ 0
 none z h = omega arith
 
@@ -158,6 +148,10 @@ module _ (m : ℕ) (v : Finite binary64 m) where
       ∙ ap (λ (x : ℕ). min x 0x7f800000) (written-same 24 (a * 2 ^ 149) (down (v .power)) units-of (2 ^ 925) (down-pos (v .power)) (pow-pos 925) cross)
 
   -- below the smallest normal f32: the sum with 2 ^ -97
+  units-under : m < 897 * 2 ^ 52 → units-of < 2 ^ 948
+  unfolding units-of
+  units-under h = units-below 53 896 units-of (lit< tt) (lt-of-le-of-lt (le-of-eq (sym (v .at))) h)
+
   sum-cross : (u D T L P X : ℕ) → u * L ≡ X * D → L ≡ T * P → (u * T + 1 * 1 * D) * L * 1 ≡ (X + P) * (D * T)
   sum-cross u D T L P X e l =
       let g : u * L * T ≡ X * D * T = ap (λ (x : ℕ). x * T) e in
@@ -173,7 +167,7 @@ module _ (m : ℕ) (v : Finite binary64 m) where
       let d = v .digits * up (v .power) in
       let D = down (v .power) in
       let X = units-of in
-      let X-low : X < 2 ^ 948 = low-units X m (v .at) h in
+      let X-low : X < 2 ^ 948 = units-under h in
       ap (λ (x : Float). toBits binary64 (add binary64 x (ofBits binary64 0x39e0000000000000))) (v .is)
       ∙ round-bits binary64 false (d * 2 ^ 97 + 1 * 1 * D) (D * 2 ^ 97)
       ∙ zero-add (min (written 53 ((d * 2 ^ 97 + 1 * 1 * D) * 2 ^ 1074) (D * 2 ^ 97)) 0x7ff0000000000000)
@@ -203,7 +197,7 @@ module _ (m : ℕ) (v : Finite binary64 m) where
 
   pub low-pattern : m < 897 * 2 ^ 52 → toBits binary32 (narrowed (ofBits binary64 m)) ≡ toBits binary64 (add binary64 (ofBits binary64 m) (ofBits binary64 0x39e0000000000000)) - 926 * 2 ^ 52
   low-pattern h =
-      let X-low : units-of < 2 ^ 948 = low-units units-of m (unfold units-of in v .at) h in
+      let X-low : units-of < 2 ^ 948 = units-under h in
       narrowed-pattern
       ∙ ap (λ (x : ℕ). min x 0x7f800000) (low-written units-of X-low)
       ∙ in-range (closest units-of (2 ^ 925)) (low-closest units-of X-low)
@@ -228,7 +222,7 @@ module _ (m : ℕ) (v : Finite binary64 m) where
   unfolding units-of
   normal-pattern h =
       narrowed-pattern
-      ∙ ap (λ (x : ℕ). min x 0x7f800000) (normal-written units-of (normal-units units-of m (v .at) h) (held-whole (v .digits) (exponent 1074 (v .power)) (fits-digits binary64 false (v .digits) (v .power) (v .held))))
+      ∙ ap (λ (x : ℕ). min x 0x7f800000) (normal-written units-of (units-above 53 896 units-of (lit< tt) (le-trans h (le-of-eq (v .at)))) (held-whole (v .digits) (exponent 1074 (v .power)) (fits-digits binary64 false (v .digits) (v .power) (v .held))))
       ∙ ap (λ (x : ℕ). min ((x + 268435455 + x / 536870912 % 2) / 536870912 - 7516192768) 0x7f800000) (sym (v .at))
 
 -- ---- every magnitude up to the infinity

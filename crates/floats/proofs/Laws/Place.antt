@@ -5,17 +5,17 @@
 use mathlib.Core.Path.{_≡_, refl, sym, ap, _∙_, subst}
 use mathlib.Core.Logic.{_⊎_, inl, inr}
 use mathlib.Core.Bool.{Bool, true, false, not, cond}
-use Prim.Native.Nat.{ℕ, suc, _+_, _-_, _*_, _/_, _%_, _^_, _≤_, _<_, min, compare, zero-le}
-use native.Mathlib.Nat.{le-refl, le-trans, le-of-eq, le-of-lt, lt-of-lt-of-le, lt-of-le-of-lt, eq-or-lt-of-le, le-antisymm, eq-zero-or-pos, add-assoc, zero-add, mul-one, one-mul, mul-comm, mul-assoc, mul-le-mul-right, le-div-iff-mul-le, div-one, div-div-eq-div-mul, mul-div-cancel, mul-pos, pow-succ', add-le-add, lt-of-not-le, not-le-of-lt, le-of-suc-le-suc, lt-irrefl}
+use Prim.Native.Nat.{ℕ, zero, suc, _+_, _-_, _*_, _/_, _%_, _^_, _≤_, _<_, min, compare, zero-le}
+use native.Mathlib.Nat.{le-refl, le-trans, le-of-eq, le-of-lt, lt-of-lt-of-le, lt-of-le-of-lt, eq-or-lt-of-le, le-antisymm, eq-zero-or-pos, add-assoc, zero-add, add-zero, sub-le, zero-mul, mul-one, one-mul, mul-assoc, mul-le-mul-right, le-div-iff-mul-le, div-one, div-div-eq-div-mul, mul-div-cancel, pow-succ', add-le-add, lt-of-not-le, not-le-of-lt, le-of-suc-le-suc, lt-irrefl}
 use native.Mathlib.Omega.{arith}
-use lib.Dec.{T, ltb, ltb→lt, nltb→le, lit<}
+use lib.Dec.{T, ltb, ltb→lt, nltb→le}
 use lib.IntN.{ℤ}
 use lib.Pow.{pow-add, pow-pos, pow-mono, pow-lt, shl-lt, shr-mono}
-use lib.Ieee.{Float, nan, inf, fin, Format, binary32, binary64, prec, emax, low, up, down, size, nearest, odd, units, round, hid, ones, top, toBits}
+use lib.Ieee.{Float, nan, inf, fin, Format, binary32, binary64, prec, emax, low, up, down, size, odd, units, round, hid, ones, top, toBits}
 use lib.Ieee.Digits.{size-lt, size-le, size-reaches}
 use lib.Ieee.Exact.{HasValue, odd-sign}
 use lib.Ieee.Fits.{kept-lt, nearest-le, round-is, two, two-le-pos, down-pos}
-use lib.Ieee.Nearest.{closest, nearest-ge}
+use lib.Ieee.Nearest.{nearest-ge}
 use lib.Ieee.Order.{drop, kept}
 use lib.Ieee.Scale.{grid, overflow}
 
@@ -71,16 +71,6 @@ place-mono p a b P h = go (eq-or-lt-of-le (fewer (size a) (size b) p (size-mono 
         (subst (λ (x : ℕ). a / 2 ^ (size a - p) < x) (twice p P) (kept-lt p a))
         (kept-lead p b P (lt-of-le-of-lt zero-le l))
 
--- so places tell of magnitudes: below the place of T is below T, and from it up, where T - 1 has a smaller place, is from T up
-pub under-place : (p X T : ℕ) → 0 < p → place p X < place p T → X < T
-under-place p X T P h = lt-of-not-le (λ (g : T ≤ X). not-le-of-lt h (place-mono p T X P g))
-
-pub over-place : (p X T : ℕ) → 0 < p → place p (T - 1) < place p T → place p T ≤ place p X → T ≤ X
-over-place p X T P s h = le-of-suc-le-suc (lt-of-not-le (λ (g : X < T). not-le-of-lt (lt-of-le-of-lt (place-mono p X (T - 1) P (less X T g)) s) h))
-  where
-    less : (x y : ℕ) → x < y → x ≤ y - 1
-    less x y h = omega arith
-
 -- ---- the place of q * 2 ^ k, for a q of at most p digits that has all p where k is not 0
 place-at : (p q k : ℕ) → size (q * 2 ^ k) - p ≡ k → place p (q * 2 ^ k) ≡ k * 2 ^ (p - 1) + q
 place-at p q k e = ap (λ (j : ℕ). j * 2 ^ (p - 1) + q * 2 ^ k / 2 ^ j) e ∙ ap (λ (x : ℕ). k * 2 ^ (p - 1) + x) (mul-div-cancel q (pow-pos k))
@@ -129,6 +119,40 @@ place-of-grid p q k P h lead = go (eq-or-lt-of-le h) (eq-zero-or-pos k)
         place-at p q k
         (subst (λ (j : ℕ). size (q * 2 ^ j) - p ≡ j) (sym z) (none (size (q * 1)) p (size-le (q * 1) p (subst (λ (x : ℕ). x < 2 ^ p) (sym (mul-one q)) l))))
     go (inr l) (inr g) = place-at p q k (full-drop p q k P (lead g) l)
+
+-- ---- places tell of powers of two: the first place with the exponent's field i + 1 is that of 2 ^ (p - 1 + i)
+before-next : (k i h x : ℕ) → x < h + h → k < i → k * h + x < suc i * h
+before-next k i h x a b = omega (arith, mul-le-mul-right h b)
+
+fewer-dropped : (z p i : ℕ) → 0 < p → z ≤ p - 1 + suc i → z - p < suc i
+fewer-dropped z p i P h = omega arith
+
+place-below : (p i X : ℕ) → 0 < p → X < 2 ^ (p - 1 + i) → place p X < suc i * 2 ^ (p - 1)
+place-below p zero X P h =
+    let l : X < 2 ^ (p - 1) = subst (λ (k : ℕ). X < 2 ^ k) (add-zero (p - 1)) h in
+    let z : size X - p ≡ 0 = none (size X) p (le-trans (size-le X (p - 1) l) (sub-le p 1)) in
+    subst (λ (k : ℕ). k * 2 ^ (p - 1) + X / 2 ^ k < 1 * 2 ^ (p - 1)) (sym z)
+    (subst (λ (x : ℕ). x < 1 * 2 ^ (p - 1)) (sym (ap (λ (x : ℕ). x + X / 1) (zero-mul (2 ^ (p - 1))) ∙ zero-add (X / 1) ∙ div-one X)) (subst (λ (x : ℕ). X < x) (sym (one-mul (2 ^ (p - 1)))) l))
+place-below p (suc i) X P h =
+    before-next (size X - p) (suc i) (2 ^ (p - 1)) (X / 2 ^ (size X - p)) (subst (λ (x : ℕ). X / 2 ^ (size X - p) < x) (twice p P) (kept-lt p X))
+    (fewer-dropped (size X) p i P (size-le X (p - 1 + suc i) h))
+
+place-above : (p i X : ℕ) → 0 < p → 2 ^ (p - 1 + i) ≤ X → suc i * 2 ^ (p - 1) ≤ place p X
+place-above p i X P h =
+    le-trans (le-of-eq (last i (2 ^ (p - 1)) ∙ sym (place-at p (2 ^ (p - 1)) i (full-drop p (2 ^ (p - 1)) i P (le-refl (2 ^ (p - 1))) (pow-lt (less p P))))))
+    (place-mono p (2 ^ (p - 1) * 2 ^ i) X P (le-trans (le-of-eq (sym (pow-add 2 (p - 1) i))) h))
+  where
+    last : (i h : ℕ) → suc i * h ≡ i * h + h
+    last i h = omega arith
+
+    less : (p : ℕ) → 0 < p → p - 1 < p
+    less p P = omega arith
+
+pub units-below : (p i X : ℕ) → 0 < p → place p X < suc i * 2 ^ (p - 1) → X < 2 ^ (p - 1 + i)
+units-below p i X P h = lt-of-not-le (λ (g : 2 ^ (p - 1 + i) ≤ X). not-le-of-lt h (place-above p i X P g))
+
+pub units-above : (p i X : ℕ) → 0 < p → suc i * 2 ^ (p - 1) ≤ place p X → 2 ^ (p - 1 + i) ≤ X
+units-above p i X P h = le-of-suc-le-suc (lt-of-not-le (λ (g : X < 2 ^ (p - 1 + i)). not-le-of-lt (place-below p i X P g) h))
 
 -- ---- what is written for a finite value of n units
 pub bits-of-units : (f : Format) (s : Bool) (m : ℕ) (e : ℤ) (n : ℕ) → m * up e * 2 ^ low f ≡ n * down e

@@ -1,20 +1,19 @@
 -- A finite value in units of its format's smallest value: m * 2 ^ e is m * 2 ^ i units, a whole number (`in-units`). What `round` makes of a
 -- fraction turns on its size alone (`pattern-same`). The sign stands apart, in the value and in the pattern. Assumes nothing.
 use mathlib.Core.Path.{_≡_, refl, sym, ap, _∙_, subst}
-use mathlib.Core.Logic.{_⊎_, inl, inr}
 use mathlib.Core.Bool.{Bool, true, false, not, _&&_, cond}
-use Prim.Native.Nat.{ℕ, zero, suc, _+_, _-_, _*_, _/_, _%_, _^_, _≤_, _<_, min}
-use native.Mathlib.Nat.{le-trans, le-of-eq, lt-of-lt-of-le, lt-of-not-le, lt-irrefl, le-of-suc-le-suc, add-assoc, zero-add, mul-one, one-mul, mul-comm, mul-assoc, mul-left-comm, mul-right-comm, mul-le-mul-right, mul-pos, mod-eq-of-lt, add-mod-left}
+use Prim.Native.Nat.{ℕ, zero, suc, _+_, _-_, _*_, _%_, _^_, _≤_, _<_}
+use native.Mathlib.Nat.{le-trans, le-of-eq, lt-of-lt-of-le, lt-of-not-le, lt-irrefl, le-of-suc-le-suc, zero-add, mul-one, one-mul, mul-assoc, mul-le-mul-right, mul-pos}
 use native.Mathlib.Omega.{arith}
 use lib.Dec.{T, leb, ltb, eqb, leb→le, ltb→lt, eqb→eq}
 use lib.IntN.{ℤ, pos, negsuc}
-use lib.Pow.{pow-add, pow-pos, pow-mono, pow-lt}
-use lib.Ieee.{Float, nan, inf, fin, Format, prec, emax, low, up, down, size, odd, units, round, fits, hid, ones, top, isNan, toBits, ofBits}
-use lib.Ieee.Bits.{toBits-lt, ofBits-toBits}
+use lib.Pow.{pow-add, pow-pos, pow-lt}
+use lib.Ieee.{Float, inf, fin, Format, prec, emax, low, up, down, size, odd, units, round, fits, top, isNan, toBits}
+use lib.Ieee.Bits.{toBits-lt}
 use lib.Ieee.Fits.{and-l, and-r, up-pos, round-is}
 use lib.Ieee.Nearest.{closest, closest-same, div-same}
 use lib.Ieee.Order.{drop, kept}
-use Rattle.floats.proofs.Laws.Place.{place, bits-of-units, bits-of-inf, pattern}
+use Rattle.floats.proofs.Laws.Place.{place, bits-of-units, pattern}
 
 -- ---- what `fits` says of a finite value
 pub fits-digits : (f : Format) (s : Bool) (m : ℕ) (e : ℤ) → T (fits f (fin s m e)) → m < 2 ^ prec f

@@ -2,40 +2,30 @@
 -- |x| + 2 ^ 52 is rounded to a whole number, ties to even, and taking 2 ^ 52 off again is exact (`low-whole`). From 2 ^ 52 up every f64
 -- is whole (`high-whole`). An f64 holds the nearest whole number (`nearest-whole-exact`). Assumes nothing.
 use mathlib.Core.Path.{_≡_, refl, sym, ap, _∙_, subst}
-use mathlib.Core.Logic.{_⊎_, inl, inr}
-use mathlib.Core.Bool.{Bool, true, false, not, cond}
+use mathlib.Core.Bool.{Bool, true, false, not}
 use Prim.Native.Nat.{ℕ, suc, _+_, _-_, _*_, _/_, _%_, _^_, _≤_, _<_}
-use native.Mathlib.Nat.{le-trans, le-of-eq, le-of-lt, lt-of-lt-of-le, lt-of-le-of-lt, lt-of-not-le, not-le-of-lt, mul-one, one-mul, mul-comm, mul-assoc, mul-right-comm, mul-le-mul-left, mul-le-mul-right, mul-lt-mul-of-pos-right, lt-of-mul-lt-mul-right, mul-pos, eq-of-mul-eq-mul-right, div-lt-iff-lt-mul, le-div-iff-mul-le, sub-le}
+use native.Mathlib.Nat.{le-trans, le-of-eq, le-of-lt, lt-of-lt-of-le, lt-of-le-of-lt, not-le-of-lt, mul-one, mul-comm, mul-assoc, mul-right-comm, mul-le-mul-left, mul-le-mul-right, mul-lt-mul-of-pos-right, lt-of-mul-lt-mul-right, mul-pos, eq-of-mul-eq-mul-right, div-lt-iff-lt-mul, le-div-iff-mul-le}
 use native.Mathlib.Omega.{arith}
 use lib.Dec.{T, ltb, lit<, lit≤}
 use lib.Arith.{le→nltb}
 use lib.IntN.{ℤ, pos, negsuc}
-use lib.Pow.{pow-add, pow-pos, pow-mono, shl-lt}
-use lib.Ieee.{Float, nan, inf, fin, binary64, low, up, down, size, round, neg, add, sub, sum, fits, isNan, top, toBits, ofBits}
+use lib.Pow.{pow-pos, pow-mono, shl-lt}
+use lib.Ieee.{Float, nan, inf, fin, binary64, up, down, round, neg, add, sub, sum, fits, isNan, toBits, ofBits}
 use lib.Ieee.Back.{round-whole}
 use lib.Ieee.Bits.{cond-no}
 use lib.Ieee.Exact.{HasValue}
-use lib.Ieee.Fits.{down-pos, up-pos}
+use lib.Ieee.Fits.{down-pos}
 use lib.Ieee.Nearest.{closest, closest-same, closest-mono}
-use lib.Ieee.Order.{drop, kept}
+use lib.Ieee.Order.{drop}
 use lib.Ieee.Scale.{round-same, grid, overflow}
 use Rattle.floats.specs.Narrowing.{nearestWhole}
 use Rattle.floats.specs.OnBits.{absolute}
 use Rattle.floats.proofs.Laws.Closest.{closest-add-even, closest-one}
-use Rattle.floats.proofs.Laws.Place.{place, under-place, over-place, size-exact, bits-of-inf}
-use Rattle.floats.proofs.Laws.Units.{exponent, in-units, fits-digits, fits-signed, round-number}
+use Rattle.floats.proofs.Laws.Place.{units-below, units-above, size-exact, bits-of-inf}
+use Rattle.floats.proofs.Laws.Units.{exponent, in-units, fits-digits, fits-signed}
 use Rattle.floats.proofs.Laws.Magnitude.{magnitude-of-bits, absolute-of-bits, clear-sign, set-sign}
 use Rattle.floats.proofs.Laws.Order.{bits-of-clear}
 use Rattle.floats.proofs.Laws.Rounding.{round-value, round-self, neg-round}
-
--- ---- 2 ^ 52, by units and by patterns
-low-units : (X m : ℕ) → m ≡ place 53 X → m < 1075 * 2 ^ 52 → X < 2 ^ 1126
-unfolding size
-low-units X m e h = under-place 53 X (2 ^ 1126) (lit< tt) (lt-of-le-of-lt (le-of-eq (sym e)) h)
-
-high-units : (X m : ℕ) → m ≡ place 53 X → 1075 * 2 ^ 52 ≤ m → 2 ^ 1126 ≤ X
-unfolding size
-high-units X m e h = over-place 53 X (2 ^ 1126) (lit< tt) (lit< tt) (le-trans h (le-of-eq e))
 
 -- ---- a / c + 2 ^ 52, for a / c below 2 ^ 52, rounds to a whole number
 module _ (a c : ℕ) (C : 0 < c) (small : a < 2 ^ 52 * c) where
@@ -130,7 +120,7 @@ low-whole nan t n h = absurd n
 low-whole (inf s) t n h = absurd (high-inf (subst (λ (m : ℕ). m < 1075 * 2 ^ 52) (magnitude-of-bits binary64 (inf s) t n ∙ bits-of-inf binary64 false) h))
 low-whole (fin s m e) t n h =
     let u : T (fits binary64 (fin false m e)) = fits-signed binary64 s false m e t in
-    low-finite m e u (low-units (m * 2 ^ exponent 1074 e) (toBits binary64 (fin s m e) % 2 ^ 63) (magnitude-of-bits binary64 (fin s m e) t n ∙ bits-of-clear binary64 m e u) h)
+    low-finite m e u (units-below 53 1074 (m * 2 ^ exponent 1074 e) (lit< tt) (subst (λ (b : ℕ). b < 1075 * 2 ^ 52) (magnitude-of-bits binary64 (fin s m e) t n ∙ bits-of-clear binary64 m e u) h))
 
 -- ---- from 2 ^ 52 up every f64 is whole
 below-52 : (m k : ℕ) → m < 2 ^ 53 → 2 ^ 1126 ≤ m * 2 ^ (1074 - suc k) → ⊥
@@ -150,7 +140,7 @@ high-whole nan t h = refl
 high-whole (inf s) t h = refl
 high-whole (fin s m e) t h =
     let u : T (fits binary64 (fin false m e)) = fits-signed binary64 s false m e t in
-    high-finite s m e t (high-units (m * 2 ^ exponent 1074 e) (toBits binary64 (fin s m e) % 2 ^ 63) (magnitude-of-bits binary64 (fin s m e) t tt ∙ bits-of-clear binary64 m e u) h)
+    high-finite s m e t (units-above 53 1074 (m * 2 ^ exponent 1074 e) (lit< tt) (subst (λ (b : ℕ). 1075 * 2 ^ 52 ≤ b) (magnitude-of-bits binary64 (fin s m e) t tt ∙ bits-of-clear binary64 m e u) h))
 
 -- ---- the sign goes through
 pub whole-neg : (x : Float) → neg (nearestWhole x) ≡ nearestWhole (neg x)

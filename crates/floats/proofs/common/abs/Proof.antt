@@ -1,25 +1,13 @@
--- `abs` meets its contract: the pattern without its sign stands for |x| (`absolute-of-bits`). Assumes nothing.
+-- `abs` meets its contract: the pattern without its sign stands for |x|. Assumes nothing.
 use borrow.Author.Needs.{needs}
-use mathlib.Core.Path.{ap, _∙_}
-use Prim.Native.Nat.{ℕ, _%_}
 use denote.Floats.{passes}
-use lib.Ieee.{binary64, fits, top, ofBits}
-use Rattle.floats.proofs.Laws.Magnitude.{absolute-of-bits}
+use lib.Ieee.{binary64}
+use Rattle.floats.proofs.Laws.Magnitude.{absolute-by-bits}
 use Rattle.floats.proofs.common.abs.Statement.{statement}
 use Rattle.floats.proofs.common.abs.Tie as tie
 
-to-bits-f64-requires : tie.Need-to-bits-f64-requires
-to-bits-f64-requires c κs = search needs
-
-from-bits-f64-requires : tie.Need-from-bits-f64-requires
-from-bits-f64-requires c κs = search needs
-
 returns : tie.Need-returns
-returns c =
-    let start = c .before .before in
-    c .from-bits-f64 .ensures
-    ∙ ap (λ (n : ℕ). ofBits binary64 (n % top binary64)) (c .before .to-bits-f64 .ensures)
-    ∙ absolute-of-bits binary64 (start .args .x) (passes (fits binary64 (start .args .x)) (start .good .0 .1))
+returns c = absolute-by-bits binary64 _ _ _ (passes _ (c .before .before .good .0 .1)) (c .before .to-bits-f64 .ensures) (c .from-bits-f64 .ensures)
 
 pub abs-spec : {M : Type 1} → statement M
-abs-spec = tie.close (tie.spec to-bits-f64-requires from-bits-f64-requires returns)
+abs-spec = tie.close (tie.spec (λ c κs. search needs) (λ c κs. search needs) returns)

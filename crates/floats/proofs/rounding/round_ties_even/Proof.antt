@@ -1,11 +1,11 @@
 -- `round_ties_even` meets its contract: from 2 ^ 52 up x is whole, and below it the sum with 2 ^ 52 rounds. Assumes nothing.
 use borrow.Author.Needs.{needs}
-use mathlib.Core.Path.{_≡_, sym, ap, _∙_, subst}
+use mathlib.Core.Path.{sym, ap, _∙_, subst}
 use Prim.Native.Nat.{ℕ, _*_, _%_, _^_, _≤_, _<_}
 use native.Mathlib.Omega.{arith}
 use denote.Floats.{passes}
 use lib.Dec.{T}
-use lib.Ieee.{binary64, neg, fits, toBits}
+use lib.Ieee.{binary64, neg, fits}
 use Rattle.floats.proofs.Laws.Nan.{number-of-below}
 use Rattle.floats.proofs.Laws.Whole.{byAdding, high-whole, clear-whole, signed-whole}
 use Rattle.floats.proofs.rounding.round_ties_even.Statement.{statement}
