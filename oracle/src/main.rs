@@ -1,8 +1,10 @@
 // The Rust beside it: compares the exports of our static library with the crate's own functions,
-// value by value. Without an argument in the short form, with `long` in the long one.
+// value by value. Without an argument in the short form, with `long` in the long one. With `bench` it
+// measures both instead.
 
 #![allow(dead_code)]
 
+mod bench;
 mod bits;
 mod checks;
 mod common;
@@ -31,8 +33,12 @@ fn main() -> ExitCode {
     let long = match words.iter().map(String::as_str).collect::<Vec<_>>()[..] {
         [] => false,
         ["long"] => true,
+        ["bench"] => {
+            bench::bench();
+            return ExitCode::SUCCESS;
+        }
         _ => {
-            eprintln!("oracle: the only argument is `long`");
+            eprintln!("oracle: the arguments are none, `long` or `bench`");
             return ExitCode::from(2);
         }
     };

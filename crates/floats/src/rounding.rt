@@ -1,6 +1,5 @@
 // The nearest whole value, as `round_ties_even` of pxfm 0.1.30 has it (NOTICE). The source moves the
 // digits of the pattern; here the hardware's addition rounds, and the value is the same.
-use crate::patterns::to_bits_f64;
 ghost use mathlib.Core.Path.{_≡_};
 ghost use Rattle.floats.specs.Narrowing.{nearestWhole};
 
@@ -8,7 +7,10 @@ ghost use Rattle.floats.specs.Narrowing.{nearestWhole};
 pub fn round_ties_even(x: f64) -> f64
     ensures { λ r. ⌜ r ≡ nearestWhole x ⌝ }
 {
-    let n = to_bits_f64(x);
+    if x != x {
+        return x;
+    }
+    let n = f64::to_bits(x);
     let m = n % 0x8000_0000_0000_0000;
     // from 2^52 up every f64 is whole
     if m >= 0x4330_0000_0000_0000 {

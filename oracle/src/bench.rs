@@ -1,0 +1,75 @@
+// The time of our exports and of the Rust beside them: the same inputs in one process, and of several
+// rounds the best. Both sides are called and not inlined, as our exports can only be called. Of the
+// double-doubles only `dd_fmla` is here: it holds an exact product and a full sum, and its result comes
+// back in a register on both sides, while the pairs of the others go through memory on ours.
+
+use crate::common::{dd_fmla, is_integerf};
+use crate::ours;
+use crate::random::Random;
+use crate::rounding::round_ties_even::round_ties_even;
+use std::hint::black_box;
+use std::time::Instant;
+
+const INPUTS: usize = 4096;
+const PASSES: usize = 256;
+const ROUNDS: usize = 15;
+
+// Nanoseconds for one call of `f`, over all inputs, the best of all rounds.
+fn time<A: Copy, R>(inputs: &[A], f: impl Fn(A) -> R) -> f64 {
+    let round = || {
+        let start = Instant::now();
+        for _ in 0..PASSES {
+            for &input in inputs {
+                black_box(f(input));
+            }
+        }
+        start.elapsed().as_nanos() as f64 / (PASSES * inputs.len()) as f64
+    };
+    (0..ROUNDS).map(|_| round()).fold(f64::INFINITY, f64::min)
+}
+
+// One line: ours, the Rust's, and ours as a part of the Rust's.
+fn line<A: Copy, R>(name: &str, inputs: &[A], ours: impl Fn(A) -> R, rust: impl Fn(A) -> R) {
+    let (ours, rust) = (time(inputs, ours), time(inputs, rust));
+    println!("{name}: ours {ours:.2} ns, the Rust {rust:.2} ns, ratio {:.2}", ours / rust);
+}
+
+#[inline(never)]
+fn rust_narrow(x: f64) -> f32 {
+    x as f32
+}
+
+#[inline(never)]
+fn rust_round_ties_even(x: f64) -> f64 {
+    round_ties_even(x)
+}
+
+#[inline(never)]
+fn rust_is_integerf(p: u32) -> bool {
+    is_integerf(f32::from_bits(p))
+}
+
+#[inline(never)]
+fn rust_dd_fmla([a, b, c]: [f64; 3]) -> f64 {
+    dd_fmla(a, b, c)
+}
+
+// The inputs that `make` gives.
+fn inputs<A>(make: impl Fn(&mut Random) -> A) -> Vec<A> {
+    let mut random = Random::new(0);
+    (0..INPUTS).map(|_| make(&mut random)).collect()
+}
+
+// Prints a line for each function.
+pub fn bench() {
+    let f32_sizes = inputs(|r| r.between(-126, 127));
+    line("narrow, normal f32s", &f32_sizes, |x| ours::fade_narrow(x), rust_narrow);
+    let subnormal = inputs(|r| r.between(-160, -127));
+    line("narrow, subnormal f32s", &subnormal, |x| ours::fade_narrow(x), rust_narrow);
+    let exponents = inputs(|r| r.between(-20, 7));
+    line("round_ties_even", &exponents, |x| ours::fade_round_ties_even(x), rust_round_ties_even);
+    let patterns = inputs(|r| r.bits() as u32);
+    line("is_integerf", &patterns, |p| ours::fade_is_integerf(p), rust_is_integerf);
+    let three = inputs(|r| [r.moderate(), r.moderate(), r.moderate()]);
+    line("dd_fmla", &three, |[a, b, c]| ours::fade_dd_fmla(a, b, c), rust_dd_fmla);
+}
