@@ -12,26 +12,28 @@ use std::time::Instant;
 
 const INPUTS: usize = 4096;
 const PASSES: usize = 256;
-const ROUNDS: usize = 15;
+const ROUNDS: usize = 60;
 
-// Nanoseconds for one call of `f`, over all inputs, the best of all rounds.
-fn time<A: Copy, R>(inputs: &[A], f: impl Fn(A) -> R) -> f64 {
-    let round = || {
-        let start = Instant::now();
-        for _ in 0..PASSES {
-            for &input in inputs {
-                black_box(f(input));
-            }
+// Nanoseconds for one call of `f`, over all inputs.
+fn round<A: Copy, R>(inputs: &[A], f: &impl Fn(A) -> R) -> f64 {
+    let start = Instant::now();
+    for _ in 0..PASSES {
+        for &input in inputs {
+            black_box(f(input));
         }
-        start.elapsed().as_nanos() as f64 / (PASSES * inputs.len()) as f64
-    };
-    (0..ROUNDS).map(|_| round()).fold(f64::INFINITY, f64::min)
+    }
+    start.elapsed().as_nanos() as f64 / (PASSES * inputs.len()) as f64
 }
 
-// One line: ours, the Rust's, and ours as a part of the Rust's.
+// One line: ours, the Rust's, and ours as a part of the Rust's. The two take turns.
 fn line<A: Copy, R>(name: &str, inputs: &[A], ours: impl Fn(A) -> R, rust: impl Fn(A) -> R) {
-    let (ours, rust) = (time(inputs, ours), time(inputs, rust));
-    println!("{name}: ours {ours:.2} ns, the Rust {rust:.2} ns, ratio {:.2}", ours / rust);
+    let (mut best, mut best_rust) = (f64::INFINITY, f64::INFINITY);
+    for _ in 0..ROUNDS {
+        best = best.min(round(inputs, &ours));
+        best_rust = best_rust.min(round(inputs, &rust));
+    }
+    let ratio = best / best_rust;
+    println!("{name}: ours {best:.2} ns, the Rust {best_rust:.2} ns, ratio {ratio:.2}");
 }
 
 #[inline(never)]

@@ -53,7 +53,7 @@ fn main() -> ExitCode {
 
 // One check: on one thread in the short form, on two in the long one.
 fn run((_, compare): Check, long: bool) -> Tally {
-    let (parts, random) = if long { (2, 36_000_000) } else { (1, 2_000_000) };
+    let (parts, random) = if long { (2, 36_000_000) } else { (1, 10_000_000) };
     std::thread::scope(|scope| {
         let start = |part| {
             scope.spawn(move || {

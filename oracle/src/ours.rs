@@ -25,7 +25,7 @@ unsafe extern "C" {
     fn fade_full_add_f64(a_lo: f64, a_hi: f64, b: f64, lo: *mut f64, hi: *mut f64);
 }
 
-// The pair that `call` writes. It starts as an odd number, so that a part left unwritten shows.
+// The pair that `call` writes. It starts as an unlikely number, so that a part left unwritten shows.
 #[inline(always)]
 fn written(call: impl FnOnce(*mut f64, *mut f64)) -> DoubleDouble {
     let mut pair = DoubleDouble::new(-1.2345678e-123, -1.2345678e-123);

@@ -74,15 +74,17 @@ pub fn each_for_narrow(share: &Share, mut f: impl FnMut(f64)) {
     });
 }
 
-// A positive f32 as an f64, its upper neighbour, the midpoint of the two (for the greatest finite
-// f32 the one to 2^128), and the f64s next below and next above that midpoint.
+// A positive f32 as an f64 and its upper neighbour, the midpoint of the two (for the greatest finite
+// f32 the one to 2^128), and the f64s next below and next above the first and the midpoint.
 #[inline(always)]
-fn about_f32(p: u32) -> [f64; 5] {
+fn about_f32(p: u32) -> [f64; 7] {
     const GREATEST: u32 = 0x7f7f_ffff;
     let low = f32::from_bits(p) as f64;
     let high = f32::from_bits(p + 1) as f64;
     let middle = (low + if p == GREATEST { power(128) } else { high }) / 2.0;
-    [low, high, middle, middle.next_down(), middle.next_up()]
+    let beside = |x: f64| [x.next_down(), x, x.next_up()];
+    let ([a, b, c], [d, e, f]) = (beside(low), beside(middle));
+    [a, b, c, d, e, f, high]
 }
 
 // f64s about whole numbers and halves, the edges of every exponent, and random ones: of any size,

@@ -1,13 +1,19 @@
 -- Document 01, "Double-double": a double-double is a pair of f64, lo and hi. The non-fma branch is the one ported everywhere, and each
 -- operation is fixed by its ordered f64 operations: those of `double_double.rs`, line by line, under the names that the lines have there.
-use lib.Ieee.{Float}
-use Rattle.floats.specs.Operations.{_⊕_, _⊖_, _⊗_, f64}
+use mathlib.Core.Bool.{false}
+use lib.IntN.{pos}
+use lib.Ieee.{Float, fin}
+use Rattle.floats.specs.Operations.{_⊕_, _⊖_, _⊗_}
 use Rattle.double_double.specs.declared.DoubleDouble.{DoubleDouble}
+
+-- 2^27 + 1
+abbrev pub splitter : Float
+splitter = fin false 134217729 (pos 0)
 
 -- "`split` with 2^27 + 1"
 unfoldable pub split : Float → DoubleDouble
 split a =
-    let t1 = f64 0x41a0000002000000 ⊗ a in
+    let t1 = splitter ⊗ a in
     let t2 = a ⊖ t1 in
     let r-hi = t1 ⊕ t2 in
     let r-lo = a ⊖ r-hi in

@@ -12,7 +12,7 @@ pub struct DoubleDouble {
 }
 
 impl DoubleDouble {
-    // a in two parts: hi has its upper 26 binary digits, lo the rest.
+    // a in two parts: hi is a rounded to 26 binary digits and lo the rest, where nothing overflows.
     pub fn split(a: f64) -> DoubleDouble
         ensures { λ r. ⌜ r ≡ spec.split a ⌝ }
     {
@@ -24,7 +24,7 @@ impl DoubleDouble {
         DoubleDouble { lo: r_lo, hi: r_hi }
     }
 
-    // a * b and its error.
+    // a * b and its error, where nothing overflows or underflows.
     pub fn from_exact_mult(a: f64, b: f64) -> DoubleDouble
         ensures { λ r. ⌜ r ≡ spec.fromExactMult a b ⌝ }
     {
@@ -38,7 +38,7 @@ impl DoubleDouble {
         DoubleDouble { lo: r_lo, hi: r_hi }
     }
 
-    // a + b and its error, for |a| >= |b|.
+    // a + b and its error, which is exact for |a| >= |b|.
     pub fn from_exact_add(a: f64, b: f64) -> DoubleDouble
         ensures { λ r. ⌜ r ≡ spec.fromExactAdd a b ⌝ }
     {

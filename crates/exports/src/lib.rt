@@ -97,7 +97,7 @@ pub extern "C" fn fade_split(a: f64, lo: &mut f64, hi: &mut f64)
     lend(DoubleDouble::split(a), lo, hi)
 }
 
-// a * b and its error.
+// a * b and its error, where nothing overflows or underflows.
 #[no_mangle]
 pub extern "C" fn fade_from_exact_mult(a: f64, b: f64, lo: &mut f64, hi: &mut f64)
     ensures { λ _. ⌜ both (now (lo .exit)) (now (hi .exit)) ≡ spec.fromExactMult a b ⌝ }
@@ -105,7 +105,7 @@ pub extern "C" fn fade_from_exact_mult(a: f64, b: f64, lo: &mut f64, hi: &mut f6
     lend(DoubleDouble::from_exact_mult(a, b), lo, hi)
 }
 
-// a + b and its error, for |a| >= |b|.
+// a + b and its error, which is exact for |a| >= |b|.
 #[no_mangle]
 pub extern "C" fn fade_from_exact_add(a: f64, b: f64, lo: &mut f64, hi: &mut f64)
     ensures { λ _. ⌜ both (now (lo .exit)) (now (hi .exit)) ≡ spec.fromExactAdd a b ⌝ }

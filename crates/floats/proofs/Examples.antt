@@ -15,7 +15,7 @@ abbrev pub wholes : ℕ → ℕ → Bool
 wholes n r = eqb (toBits binary64 (nearestWhole (ofBits binary64 n))) r
 
 -- The largest f32 is the nearest below 2^128 - 2^103, and from there up it is infinity; half of the smallest subnormal is a tie and goes to
--- zero, and what is next above it does not; 1 + 2^-24 and 1 + 3 * 2^-24 are ties, one each way; -0 keeps its sign; a NaN stays one.
+-- zero, and what is next above it does not; just under the smallest normal f32 goes up to it; 1 + 2^-24 and 1 + 3 * 2^-24 are ties, one each way; -0 keeps its sign; a NaN stays one.
 pub narrowing-examples : T (narrows 0x47efffffefffffff 0x7f7fffff
     && narrows 0x47effffff0000000 0x7f800000
     && narrows 0xc7effffff0000000 0xff800000

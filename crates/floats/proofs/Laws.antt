@@ -6,6 +6,7 @@ pub mod Units
 pub mod Magnitude
 pub mod Rounding
 pub mod Order
+pub mod Overflow
 pub mod Narrow
 pub mod Whole
 pub mod Integer

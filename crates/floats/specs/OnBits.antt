@@ -10,7 +10,7 @@ absolute nan = nan
 absolute (inf s) = inf false
 absolute (fin s m e) = fin false m e
 
--- The source's `is_integerf`: a whole number other than zero. A zero is none, and an infinity and a NaN are one; the callers
+-- The source's `is_integerf`: whether x is a whole number. A zero does not count as one, and an infinity and a NaN do; its callers
 -- have sorted these out before.
 unfoldable pub isInteger : Float → Bool
 isInteger nan = true

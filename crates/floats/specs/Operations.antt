@@ -1,5 +1,5 @@
--- The four operations on f64, as the logic's account of IEEE 754 has them, written between their operands:
--- each is the exact result rounded once to binary64. Definitions of the higher crates are read side by side with the Rust by these.
+-- The four operations on f64, as the logic's account of IEEE 754 has them, written between their operands, so that definitions above
+-- can be read beside the Rust. Each is the exact result rounded once to binary64.
 use lib.Ieee.{Float, binary64, add, sub, mul, div, ofBits}
 use Prim.Native.Nat.{ℕ}
 

@@ -22,8 +22,8 @@ pub fn abs(x: f64) -> f64
     from_bits_f64(to_bits_f64(x) % 0x8000_0000_0000_0000)
 }
 
-// Whether the f32 of the pattern n is a whole number. As in the source a zero is none, and an
-// infinity and a NaN are one.
+// Whether the f32 of the pattern n is a whole number. As in the source a zero does not count as
+// one, and an infinity and a NaN do.
 pub fn is_integerf(n: u32) -> bool
     ensures { λ r. ⌜ r ≡ isInteger (ofBits binary32 n) ⌝ }
 {

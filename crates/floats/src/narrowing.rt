@@ -37,8 +37,8 @@ fn narrow_magnitude(m: u64) -> u64
         let sum = f64::from_bits(m) + f64::from_bits(0x39e0_0000_0000_0000);
         return f64::to_bits(sum) - 0x39e0_0000_0000_0000;
     }
-    // Of the 52 digits 23 are kept: half a last place less one, and one more if the last kept
-    // digit is odd. A carry runs into the exponent's field, which counts from 896 less.
+    // Of the 52 digits 23 are kept: add half a last place less one, and one more if the last kept
+    // digit is odd, and cut. A carry runs into the exponent's field, which is less by 896.
     let p = (m + 0xfff_ffff + m / 0x2000_0000 % 2) / 0x2000_0000 - 0x1_c000_0000;
     if p < 0x7f80_0000 {
         return p;

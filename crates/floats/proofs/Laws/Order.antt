@@ -1,5 +1,6 @@
 -- The order of values. Rounding keeps it, whatever the signs, subnormal results and overflow to an infinity included (`rounding-mono`). Of two
--- values whose sign is clear the order is that of their patterns, as numbers (`pattern-mono`, `order-of-patterns`). Assumes nothing.
+-- values whose sign is clear the order is that of their patterns, as numbers (`pattern-mono`, `order-of-patterns`, `values-of-patterns`).
+-- Assumes nothing.
 use mathlib.Core.Path.{_≡_, refl, sym, ap, _∙_, subst}
 use mathlib.Core.Logic.{_⊎_, inl, inr}
 use mathlib.Core.Bool.{Bool, true, false, not, _&&_, _||_, cond}
@@ -10,13 +11,15 @@ use lib.Dec.{T, leb, ltb, eqb, leb→le, nleb→lt, ltb→lt, lt→ltb, eqb→eq
 use lib.IntN.{ℤ, pos}
 use lib.Pow.{pow-pos}
 use lib.Ieee.{Float, nan, inf, fin, Format, binary32, binary64, prec, low, up, down, odd, units, round, neg, le, fits, hid, ones, toBits, ofBits}
-use lib.Ieee.Bits.{ofBits-toBits}
+use lib.Ieee.Bits.{ofBits-fits, ofBits-toBits}
+use lib.Ieee.Exact.{HasValue}
 use lib.Ieee.Fits.{and-l, down-pos, round-is, two, two-le-pos}
 use lib.Ieee.Order.{drop, kept, round-mono, le-of-values}
 use lib.Ieee.Scale.{round-same, overflow}
 use Rattle.floats.proofs.Laws.Place.{place, place-mono, place-of-overflow, bits-of-inf}
 use Rattle.floats.proofs.Laws.Units.{exponent, in-units, bits-of-value}
-use Rattle.floats.proofs.Laws.Rounding.{neg-round, fits-under}
+use Rattle.floats.proofs.Laws.Magnitude.{Finite, read-magnitude}
+use Rattle.floats.proofs.Laws.Rounding.{round-holds, neg-round, fits-under}
 
 -- ---- what `le` says of two finite values whose sign is clear
 or-split : (a b : Bool) → T (a || b) → T a ⊎ T b
@@ -207,3 +210,24 @@ rounding-mono f true a b false c d B D h =
 rounding-mono f false a b true c d B D h =
     subst (λ (x : Float). T (le x (round f true c d))) (sym (ap (λ (x : ℕ). round f false x b) (h .0) ∙ round-zero f false b B))
     (subst (λ (x : Float). T (le (fin false 0 (pos 0)) x)) (sym (ap (λ (x : ℕ). round f true x d) (h .1) ∙ round-zero f true d D)) (unfold le in tt))
+
+-- so a value of the format that bounds a fraction bounds what it rounds to
+pub round-at-most : (f : Format) (x : Float) (a c b d : ℕ) → 0 < c → 0 < d → T (fits f x) → HasValue x false b d → a * d ≤ b * c → T (le (round f false a c) x)
+round-at-most f x a c b d C D t v h = subst (λ (y : Float). T (le (round f false a c) y)) (round-holds f x false b d D t v) (round-mono f a c b d C D h)
+
+pub round-at-least : (f : Format) (x : Float) (a c b d : ℕ) → 0 < c → 0 < d → T (fits f x) → HasValue x false b d → b * c ≤ a * d → T (le x (round f false a c))
+round-at-least f x a c b d C D t v h = subst (λ (y : Float). T (le y (round f false a c))) (round-holds f x false b d D t v) (round-mono f b d a c D C h)
+
+-- ---- the order of the values of patterns, up to the infinity's
+bits-back : (f : Format) (m : ℕ) → m ≤ ones f * hid f → T (clear (ofBits f m)) × (toBits f (ofBits f m) ≡ m)
+bits-back f m h = go (read-magnitude f m h)
+  where
+    go : ((ofBits f m ≡ inf false) × (m ≡ ones f * hid f)) ⊎ Finite f m → T (clear (ofBits f m)) × (toBits f (ofBits f m) ≡ m)
+    go (inl z) = (subst (λ (x : Float). T (clear x)) (sym (z .0)) tt, ap (toBits f) (z .0) ∙ bits-of-inf f false ∙ zero-add (ones f * hid f) ∙ sym (z .1))
+    go (inr v) = (subst (λ (x : Float). T (clear x)) (sym (v .is)) tt, ap (toBits f) (v .is) ∙ bits-of-clear f (v .digits) (v .power) (v .held) ∙ sym (v .at))
+
+pub values-of-patterns : (f : Format) (m n : ℕ) → m ≤ n → n ≤ ones f * hid f → T (le (ofBits f m) (ofBits f n))
+values-of-patterns f m n h k =
+    let p = bits-back f m (le-trans h k) in
+    let q = bits-back f n k in
+    order-of-patterns f (ofBits f m) (ofBits f n) (p .0) (q .0) (ofBits-fits f m) (ofBits-fits f n) (le-trans (le-of-eq (p .1)) (le-trans h (le-of-eq (sym (q .1)))))

@@ -201,7 +201,7 @@ kept-ge p n c P K =
     let u = c * 2 ^ k in
     le-trans (subst (λ (x : ℕ). 2 ^ (p - 1) ≤ x) (div-div-eq-div-mul n c (2 ^ k)) (kept-lead p (n / c) P K)) (nearest-ge (n / u) (compare (n % u * 2) u))
 
--- the pattern of a / c rounded, if it had no end
+-- the pattern of a / c rounded, if patterns did not stop at the infinity's
 abbrev pub pattern : Format → ℕ → ℕ → ℕ
 pattern f a c = drop (prec f) (a * 2 ^ low f) c * hid f + kept (prec f) (a * 2 ^ low f) c
 
@@ -211,11 +211,11 @@ place-of-rounded f a c =
     let p = prec f in
     place-of-grid p (kept p n c) (drop p n c) (two-le-pos p (two f)) (kept-le p n c) (kept-ge p n c (two-le-pos p (two f)))
 
-pub least : (a b : ℕ) → a ≤ b → a ≡ min a b
-least a b h = omega arith
+pub min-left : (a b : ℕ) → a ≤ b → a ≡ min a b
+min-left a b h = omega arith
 
-pub greatest : (a b : ℕ) → b ≤ a → b ≡ min a b
-greatest a b h = omega arith
+pub min-right : (a b : ℕ) → b ≤ a → b ≡ min a b
+min-right a b h = omega arith
 
 bits-of-units-cut : (f : Format) (s : Bool) (q k : ℕ) → toBits f (units f s q k) ≡ cond s (top f) 0 + min (place (prec f) (q * 2 ^ k)) (ones f * hid f)
 unfolding units
@@ -229,11 +229,11 @@ bits-of-units-cut f s q k = go (ltb (q * 2 ^ k) (overflow f)) (ltb→lt (q * 2 ^
     go true h g =
         bits-of-odd f (suc (prec f)) s q k
         ∙ ap (λ (x : ℕ). cond s (top f) 0 + x)
-        (least (place (prec f) (q * 2 ^ k)) (ones f * hid f) (le-trans (place-mono (prec f) (q * 2 ^ k) (overflow f) P (le-of-lt (h tt))) (le-of-eq (place-of-overflow f))))
+        (min-left (place (prec f) (q * 2 ^ k)) (ones f * hid f) (le-trans (place-mono (prec f) (q * 2 ^ k) (overflow f) P (le-of-lt (h tt))) (le-of-eq (place-of-overflow f))))
     go false h g =
         bits-of-inf f s
         ∙ ap (λ (x : ℕ). cond s (top f) 0 + x)
-        (greatest (place (prec f) (q * 2 ^ k)) (ones f * hid f) (le-trans (le-of-eq (sym (place-of-overflow f))) (place-mono (prec f) (overflow f) (q * 2 ^ k) P (g tt))))
+        (min-right (place (prec f) (q * 2 ^ k)) (ones f * hid f) (le-trans (le-of-eq (sym (place-of-overflow f))) (place-mono (prec f) (overflow f) (q * 2 ^ k) P (g tt))))
 
 pub round-bits : (f : Format) (s : Bool) (a c : ℕ) → toBits f (round f s a c) ≡ cond s (top f) 0 + min (pattern f a c) (ones f * hid f)
 round-bits f s a c =

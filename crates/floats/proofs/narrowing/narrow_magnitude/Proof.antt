@@ -6,7 +6,7 @@ use native.Mathlib.Nat.{le-of-lt}
 use native.Mathlib.Omega.{arith}
 use lib.Ieee.{binary64, nanBits}
 use Rattle.floats.proofs.Laws.Nan.{number-of-below}
-use Rattle.floats.proofs.Laws.Place.{least, greatest}
+use Rattle.floats.proofs.Laws.Place.{min-left, min-right}
 use Rattle.floats.proofs.Laws.Narrow.{low-finite, low-pattern, low-sum-over, low-sum-number, normal-magnitude}
 use Rattle.floats.proofs.narrowing.narrow_magnitude.Statement.{statement}
 use Rattle.floats.proofs.narrowing.narrow_magnitude.Tie as tie
@@ -43,12 +43,12 @@ uncut m = (m + 0xfff_ffff + m / 0x2000_0000 % 2) / 0x2000_0000 - 0x1_c000_0000
 returns-2 : tie.Need-returns-2
 returns-2 c =
     let start = c .before .before in
-    least (uncut (start .args .m)) 0x7f80_0000 (le-of-lt (c .if2 .taken)) ∙ sym (normal-magnitude (start .args .m) (start .pre) (c .before .if1 .left))
+    min-left (uncut (start .args .m)) 0x7f80_0000 (le-of-lt (c .if2 .taken)) ∙ sym (normal-magnitude (start .args .m) (start .pre) (c .before .if1 .left))
 
 returns-3 : tie.Need-returns-3
 returns-3 c =
     let start = c .before .before in
-    greatest (uncut (start .args .m)) 0x7f80_0000 (c .if2 .left) ∙ sym (normal-magnitude (start .args .m) (start .pre) (c .before .if1 .left))
+    min-right (uncut (start .args .m)) 0x7f80_0000 (c .if2 .left) ∙ sym (normal-magnitude (start .args .m) (start .pre) (c .before .if1 .left))
 
 pub narrow-magnitude-spec : {M : Type 1} → statement M
 narrow-magnitude-spec =
