@@ -1,12 +1,13 @@
--- Laws of the kit's account of IEEE 754, each stated once over the format where it holds for both.
-pub mod Nan
-pub mod Closest
-pub mod Place
-pub mod Units
-pub mod Magnitude
-pub mod Rounding
-pub mod Order
-pub mod Overflow
-pub mod Narrow
-pub mod Whole
-pub mod Integer
+-- Laws of the kit's account of IEEE 754, each stated once over the format where it holds for both. The first eight are for every crate above;
+-- the last three say why the functions of this crate are right.
+pub mod Nan  -- which values and patterns are a NaN's
+pub mod Closest  -- the nearest whole number to a fraction
+pub mod Place  -- the pattern of a magnitude, and of a rounded fraction
+pub mod Units  -- a value as a number of its format's smallest values
+pub mod Magnitude  -- a pattern without its sign
+pub mod Rounding  -- one rounding: a value that is held, the sign, the error
+pub mod Order  -- rounding keeps the order, and patterns have it
+pub mod Overflow  -- where rounding gives an infinity
+pub mod Narrow  -- narrowing by the pattern
+pub mod Whole  -- the nearest whole value by an addition
+pub mod Integer  -- a whole number told by its bits

@@ -35,7 +35,7 @@ twice p h = ap (λ (x : ℕ). 2 ^ x) (back p h) ∙ pow-succ' 2 (p - 1) ∙ doub
 pow-lt-back : (i j : ℕ) → 2 ^ i < 2 ^ j → i < j
 pow-lt-back i j h = lt-of-not-le (λ (g : j ≤ i). lt-irrefl (2 ^ i) (lt-of-lt-of-le h (pow-mono g)))
 
--- j + 1 digits, from both sides
+-- a + 1 digits, from both sides
 pub size-exact : (a n : ℕ) → 2 ^ a ≤ n → n < 2 ^ suc a → size n ≡ suc a
 size-exact a n lo hi = le-antisymm (size-le n (suc a) hi) (size-above n a lo)
   where

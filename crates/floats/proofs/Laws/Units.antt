@@ -1,5 +1,5 @@
 -- A finite value in units of its format's smallest value: m * 2 ^ e is m * 2 ^ i units, a whole number (`in-units`). What `round` makes of a
--- fraction turns on its size alone (`pattern-same`). The sign stands apart, in the value and in the pattern. Assumes nothing.
+-- fraction turns on its size alone (`written-same`). The sign stands apart, in the value and in the pattern. Assumes nothing.
 use mathlib.Core.Path.{_≡_, refl, sym, ap, _∙_, subst}
 use mathlib.Core.Bool.{Bool, true, false, not, _&&_, cond}
 use Prim.Native.Nat.{ℕ, zero, suc, _+_, _-_, _*_, _%_, _^_, _≤_, _<_}
@@ -65,7 +65,7 @@ in-units f s m e t = exponent-is (low f) m e (fits-low f s m e t)
 pub bits-of-value : (f : Format) (s : Bool) (m : ℕ) (e : ℤ) → T (fits f (fin s m e)) → toBits f (fin s m e) ≡ cond s (top f) 0 + place (prec f) (m * 2 ^ exponent (low f) e)
 bits-of-value f s m e t = bits-of-units f s m e (m * 2 ^ exponent (low f) e) (in-units f s m e t)
 
--- ---- what is dropped and kept of a fraction turns on its size alone
+-- ---- what is dropped and kept of a fraction n / c, as `pattern` puts it together, turns on its size alone
 unfoldable pub written : ℕ → ℕ → ℕ → ℕ
 written p n c = drop p n c * 2 ^ (p - 1) + kept p n c
 
