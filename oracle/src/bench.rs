@@ -1,9 +1,8 @@
 // The time of our exports and of the Rust beside them: the same inputs in one process, and of several
-// rounds the best. Both sides are called and not inlined, as our exports can only be called. Of the
-// double-doubles only `dd_fmla` is here: it holds an exact product and a full sum, and its result comes
-// back in a register on both sides, while the pairs of the others go through memory on ours.
+// rounds the best. Both sides are called and not inlined, as our exports can only be called.
 
 use crate::common::{dd_fmla, is_integerf};
+use crate::double_double::DoubleDouble;
 use crate::ours;
 use crate::random::Random;
 use crate::rounding::round_ties_even::round_ties_even;
@@ -52,6 +51,16 @@ fn rust_is_integerf(p: u32) -> bool {
 }
 
 #[inline(never)]
+fn rust_from_exact_mult([a, b]: [f64; 2]) -> DoubleDouble {
+    DoubleDouble::from_exact_mult(a, b)
+}
+
+#[inline(never)]
+fn rust_quick_mult([a, b]: [DoubleDouble; 2]) -> DoubleDouble {
+    DoubleDouble::quick_mult(a, b)
+}
+
+#[inline(never)]
 fn rust_dd_fmla([a, b, c]: [f64; 3]) -> f64 {
     dd_fmla(a, b, c)
 }
@@ -72,6 +81,10 @@ pub fn bench() {
     line("round_ties_even", &exponents, |x| ours::fade_round_ties_even(x), rust_round_ties_even);
     let patterns = inputs(|r| r.bits() as u32);
     line("is_integerf", &patterns, |p| ours::fade_is_integerf(p), rust_is_integerf);
+    let two = inputs(|r| [r.moderate(), r.moderate()]);
+    line("from_exact_mult", &two, |[a, b]| ours::from_exact_mult(a, b), rust_from_exact_mult);
+    let pairs = inputs(|r| [r.pair(), r.pair()].map(|[lo, hi]| DoubleDouble::new(lo, hi)));
+    line("quick_mult", &pairs, |[a, b]| ours::quick_mult(a, b), rust_quick_mult);
     let three = inputs(|r| [r.moderate(), r.moderate(), r.moderate()]);
     line("dd_fmla", &three, |[a, b, c]| ours::fade_dd_fmla(a, b, c), rust_dd_fmla);
 }

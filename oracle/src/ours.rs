@@ -1,7 +1,29 @@
-// Our side: the exports of the static library, declared by hand, and safe forms of those that write
-// their result through pointers. None has a precondition.
+// Our side: the exports of the static library, declared by hand, and those of the double-doubles in the
+// crate's own type. None has a precondition.
 
 use crate::double_double::DoubleDouble;
+
+// A double-double as our library lays it out. The crate's own type has Rust's layout.
+#[repr(C)]
+#[derive(Clone, Copy)]
+pub struct Pair {
+    lo: f64,
+    hi: f64,
+}
+
+impl From<DoubleDouble> for Pair {
+    #[inline(always)]
+    fn from(a: DoubleDouble) -> Pair {
+        Pair { lo: a.lo, hi: a.hi }
+    }
+}
+
+impl From<Pair> for DoubleDouble {
+    #[inline(always)]
+    fn from(a: Pair) -> DoubleDouble {
+        DoubleDouble::new(a.lo, a.hi)
+    }
+}
 
 unsafe extern "C" {
     pub safe fn fade_to_bits_f32(x: f32) -> u32;
@@ -16,54 +38,46 @@ unsafe extern "C" {
     pub safe fn fade_abs(x: f64) -> f64;
     pub safe fn fade_dd_fmla(a: f64, b: f64, c: f64) -> f64;
 
-    fn fade_split(a: f64, lo: *mut f64, hi: *mut f64);
-    fn fade_from_exact_mult(a: f64, b: f64, lo: *mut f64, hi: *mut f64);
-    fn fade_from_exact_add(a: f64, b: f64, lo: *mut f64, hi: *mut f64);
-    fn fade_from_full_exact_add(a: f64, b: f64, lo: *mut f64, hi: *mut f64);
-    fn fade_quick_mult(a_lo: f64, a_hi: f64, b_lo: f64, b_hi: f64, lo: *mut f64, hi: *mut f64);
-    fn fade_quick_mult_f64(a_lo: f64, a_hi: f64, b: f64, lo: *mut f64, hi: *mut f64);
-    fn fade_full_add_f64(a_lo: f64, a_hi: f64, b: f64, lo: *mut f64, hi: *mut f64);
-}
-
-// The pair that `call` writes. It starts as an unlikely number, so that a part left unwritten shows.
-#[inline(always)]
-fn written(call: impl FnOnce(*mut f64, *mut f64)) -> DoubleDouble {
-    let mut pair = DoubleDouble::new(-1.2345678e-123, -1.2345678e-123);
-    call(&mut pair.lo, &mut pair.hi);
-    pair
+    safe fn fade_split(a: f64) -> Pair;
+    safe fn fade_from_exact_mult(a: f64, b: f64) -> Pair;
+    safe fn fade_from_exact_add(a: f64, b: f64) -> Pair;
+    safe fn fade_from_full_exact_add(a: f64, b: f64) -> Pair;
+    safe fn fade_quick_mult(a: Pair, b: Pair) -> Pair;
+    safe fn fade_quick_mult_f64(a: Pair, b: f64) -> Pair;
+    safe fn fade_full_add_f64(a: Pair, b: f64) -> Pair;
 }
 
 // Our `split`.
 pub fn split(a: f64) -> DoubleDouble {
-    written(|lo, hi| unsafe { fade_split(a, lo, hi) })
+    fade_split(a).into()
 }
 
 // Our `from_exact_mult`.
 pub fn from_exact_mult(a: f64, b: f64) -> DoubleDouble {
-    written(|lo, hi| unsafe { fade_from_exact_mult(a, b, lo, hi) })
+    fade_from_exact_mult(a, b).into()
 }
 
 // Our `from_exact_add`.
 pub fn from_exact_add(a: f64, b: f64) -> DoubleDouble {
-    written(|lo, hi| unsafe { fade_from_exact_add(a, b, lo, hi) })
+    fade_from_exact_add(a, b).into()
 }
 
 // Our `from_full_exact_add`.
 pub fn from_full_exact_add(a: f64, b: f64) -> DoubleDouble {
-    written(|lo, hi| unsafe { fade_from_full_exact_add(a, b, lo, hi) })
+    fade_from_full_exact_add(a, b).into()
 }
 
 // Our `quick_mult`.
 pub fn quick_mult(a: DoubleDouble, b: DoubleDouble) -> DoubleDouble {
-    written(|lo, hi| unsafe { fade_quick_mult(a.lo, a.hi, b.lo, b.hi, lo, hi) })
+    fade_quick_mult(a.into(), b.into()).into()
 }
 
 // Our `quick_mult_f64`.
 pub fn quick_mult_f64(a: DoubleDouble, b: f64) -> DoubleDouble {
-    written(|lo, hi| unsafe { fade_quick_mult_f64(a.lo, a.hi, b, lo, hi) })
+    fade_quick_mult_f64(a.into(), b).into()
 }
 
 // Our `full_add_f64`.
 pub fn full_add_f64(a: DoubleDouble, b: f64) -> DoubleDouble {
-    written(|lo, hi| unsafe { fade_full_add_f64(a.lo, a.hi, b, lo, hi) })
+    fade_full_add_f64(a.into(), b).into()
 }

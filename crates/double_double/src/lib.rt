@@ -5,7 +5,8 @@
 ghost use mathlib.Core.Path.{_≡_};
 ghost use Rattle.double_double.specs.DoubleDouble as spec;
 
-// The number is hi + lo.
+// The number is hi + lo. Laid out as in C, so that exported functions can take and return one.
+#[repr(C)]
 pub struct DoubleDouble {
     pub lo: f64,
     pub hi: f64,

@@ -1,5 +1,5 @@
 // The functions that Rust and C can call, under the C calling convention: numbers pass as
-// themselves, and a double-double comes back through two lent f64. Each is one call of the
+// themselves, and a double-double as a C struct of two doubles, lo and hi. Each is one call of the
 // function of the same name below, and says the same of its result. None has a `requires`.
 use double_double::DoubleDouble;
 ghost use mathlib.Core.Path.{_≡_};
@@ -7,7 +7,6 @@ ghost use lib.Ieee.{binary32, binary64, toBits, ofBits};
 ghost use Rattle.floats.specs.Narrowing.{narrowed, nearestWhole};
 ghost use Rattle.floats.specs.OnBits.{absolute, isInteger};
 ghost use Rattle.double_double.specs.DoubleDouble as spec;
-ghost use Rattle.exports.specs.Lent.{both};
 
 // The pattern of an f32; 7fc00000 for a NaN.
 #[no_mangle]
@@ -91,69 +90,58 @@ pub extern "C" fn fade_abs(x: f64) -> f64
 
 // a in two parts.
 #[no_mangle]
-pub extern "C" fn fade_split(a: f64, lo: &mut f64, hi: &mut f64)
-    ensures { λ _. ⌜ both (now (lo .exit)) (now (hi .exit)) ≡ spec.split a ⌝ }
+pub extern "C" fn fade_split(a: f64) -> DoubleDouble
+    ensures { λ r. ⌜ r ≡ spec.split a ⌝ }
 {
-    lend(DoubleDouble::split(a), lo, hi)
+    DoubleDouble::split(a)
 }
 
 // a * b and its error, where nothing overflows or underflows.
 #[no_mangle]
-pub extern "C" fn fade_from_exact_mult(a: f64, b: f64, lo: &mut f64, hi: &mut f64)
-    ensures { λ _. ⌜ both (now (lo .exit)) (now (hi .exit)) ≡ spec.fromExactMult a b ⌝ }
+pub extern "C" fn fade_from_exact_mult(a: f64, b: f64) -> DoubleDouble
+    ensures { λ r. ⌜ r ≡ spec.fromExactMult a b ⌝ }
 {
-    lend(DoubleDouble::from_exact_mult(a, b), lo, hi)
+    DoubleDouble::from_exact_mult(a, b)
 }
 
 // a + b and its error, which is exact for |a| >= |b|.
 #[no_mangle]
-pub extern "C" fn fade_from_exact_add(a: f64, b: f64, lo: &mut f64, hi: &mut f64)
-    ensures { λ _. ⌜ both (now (lo .exit)) (now (hi .exit)) ≡ spec.fromExactAdd a b ⌝ }
+pub extern "C" fn fade_from_exact_add(a: f64, b: f64) -> DoubleDouble
+    ensures { λ r. ⌜ r ≡ spec.fromExactAdd a b ⌝ }
 {
-    lend(DoubleDouble::from_exact_add(a, b), lo, hi)
+    DoubleDouble::from_exact_add(a, b)
 }
 
 // a + b and its error, in whichever order of size.
 #[no_mangle]
-pub extern "C" fn fade_from_full_exact_add(a: f64, b: f64, lo: &mut f64, hi: &mut f64)
-    ensures { λ _. ⌜ both (now (lo .exit)) (now (hi .exit)) ≡ spec.fromFullExactAdd a b ⌝ }
+pub extern "C" fn fade_from_full_exact_add(a: f64, b: f64) -> DoubleDouble
+    ensures { λ r. ⌜ r ≡ spec.fromFullExactAdd a b ⌝ }
 {
-    lend(DoubleDouble::from_full_exact_add(a, b), lo, hi)
+    DoubleDouble::from_full_exact_add(a, b)
 }
 
 // The product of two double-doubles.
 #[no_mangle]
-pub extern "C" fn fade_quick_mult(
-    a_lo: f64,
-    a_hi: f64,
-    b_lo: f64,
-    b_hi: f64,
-    lo: &mut f64,
-    hi: &mut f64,
-)
-    ensures { λ _. ⌜ both (now (lo .exit)) (now (hi .exit)) ≡ spec.quickMult (both «a_lo» «a_hi») (both «b_lo» «b_hi») ⌝ }
+pub extern "C" fn fade_quick_mult(a: DoubleDouble, b: DoubleDouble) -> DoubleDouble
+    ensures { λ r. ⌜ r ≡ spec.quickMult a b ⌝ }
 {
-    let a = DoubleDouble { lo: a_lo, hi: a_hi };
-    let b = DoubleDouble { lo: b_lo, hi: b_hi };
-    lend(DoubleDouble::quick_mult(a, b), lo, hi)
+    DoubleDouble::quick_mult(a, b)
 }
 
 // The product of a double-double and an f64.
 #[no_mangle]
-pub extern "C" fn fade_quick_mult_f64(a_lo: f64, a_hi: f64, b: f64, lo: &mut f64, hi: &mut f64)
-    ensures { λ _. ⌜ both (now (lo .exit)) (now (hi .exit)) ≡ spec.quickMultF64 (both «a_lo» «a_hi») b ⌝ }
+pub extern "C" fn fade_quick_mult_f64(a: DoubleDouble, b: f64) -> DoubleDouble
+    ensures { λ r. ⌜ r ≡ spec.quickMultF64 a b ⌝ }
 {
-    let a = DoubleDouble { lo: a_lo, hi: a_hi };
-    lend(DoubleDouble::quick_mult_f64(a, b), lo, hi)
+    DoubleDouble::quick_mult_f64(a, b)
 }
 
 // The sum of a double-double and an f64.
 #[no_mangle]
-pub extern "C" fn fade_full_add_f64(a_lo: f64, a_hi: f64, b: f64, lo: &mut f64, hi: &mut f64)
-    ensures { λ _. ⌜ both (now (lo .exit)) (now (hi .exit)) ≡ spec.fullAddF64 (both «a_lo» «a_hi») b ⌝ }
+pub extern "C" fn fade_full_add_f64(a: DoubleDouble, b: f64) -> DoubleDouble
+    ensures { λ r. ⌜ r ≡ spec.fullAddF64 a b ⌝ }
 {
-    let a = DoubleDouble { lo: a_lo, hi: a_hi };
-    lend(DoubleDouble::full_add_f64(a, b), lo, hi)
+    DoubleDouble::full_add_f64(a, b)
 }
 
 // a * b + c, rounded at the end.
@@ -162,12 +150,4 @@ pub extern "C" fn fade_dd_fmla(a: f64, b: f64, c: f64) -> f64
     ensures { λ r. ⌜ r ≡ spec.ddFmla a b c ⌝ }
 {
     double_double::dd_fmla(a, b, c)
-}
-
-// Puts a double-double into the two lent f64.
-fn lend(r: DoubleDouble, lo: &mut f64, hi: &mut f64)
-    ensures { λ _. ⌜ both (now (lo .exit)) (now (hi .exit)) ≡ r ⌝ }
-{
-    *lo = r.lo;
-    *hi = r.hi;
 }

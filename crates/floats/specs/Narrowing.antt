@@ -12,7 +12,7 @@ narrowed (inf s) = inf s
 narrowed (fin s m e) = round binary32 s (m * up e) (down e)
 
 -- "Nearest f32 to a positive fraction, as in demand 3, is the same rule over whole numbers; from 2^128 - 2^103 up it is infinity": to a / c.
--- That it is infinity from there up, and finite below, is `round-overflows` and `round-stays` in proofs/Laws/Overflow.antt.
+-- That it is infinity from there up, and finite below, is `nearest-f32-infinite` and `nearest-f32-finite` in proofs/Laws/Overflow.antt.
 unfoldable pub nearestF32 : ℕ → ℕ → Float
 nearestF32 a c = round binary32 false a c
 

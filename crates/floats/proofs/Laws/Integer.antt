@@ -2,11 +2,11 @@
 -- digit among the digits, so it is whole where the zeros at their end make up for the negative exponent (`integer-of-bits`). Assumes nothing.
 use mathlib.Core.Path.{_≡_, refl, sym, ap, _∙_, subst}
 use mathlib.Core.Logic.{_⊎_, inl, inr}
-use mathlib.Core.Bool.{Bool, true, false, _&&_, cond}
+use mathlib.Core.Bool.{Bool, true, false, cond}
 use Prim.Native.Nat.{ℕ, zero, suc, _+_, _-_, _*_, _/_, _%_, _^_, _≤_, _<_}
-use native.Mathlib.Nat.{le-of-lt, lt-of-lt-of-le, lt-irrefl, zero-lt-suc, le-of-suc-le-suc, eq-or-lt-of-le, mul-one, mul-pos, mod-one, mod-mod-of-dvd, dvd-mul-right, pow-suc, pow-succ', div-lt-iff-lt-mul, add-comm, suc-add, zero-mul, mod-lt}
+use native.Mathlib.Nat.{le-of-lt, lt-of-lt-of-le, lt-irrefl, zero-lt-suc, le-of-suc-le-suc, eq-or-lt-of-le, mul-one, mul-pos, mod-one, mod-mod-of-dvd, dvd-mul-right, pow-suc, pow-succ', div-lt-iff-lt-mul, add-comm, suc-add, mod-lt}
 use native.Mathlib.Omega.{arith}
-use lib.Dec.{T, leb, ltb, eqb, eqb→eq, not-T, le→leb, leb·suc-suc, lit≤}
+use lib.Dec.{T, leb, eqb, eqb→eq, not-T, le→leb, leb·suc-suc, lit≤}
 use lib.Arith.{lt→nleb}
 use lib.IntN.{ℤ, pos, negsuc}
 use lib.Pow.{pow-pos, pow-mono, shl-lt, field}
@@ -14,8 +14,10 @@ use lib.Count.{trailingZeros, under, trailing-le}
 use lib.Ieee.{nan, inf, fin, binary32, up, down, minus, odd, fits, ofFields, ofBits}
 use lib.Ieee.Bits.{is-true, is-false, cond-no}
 use lib.Ieee.Digits.{odd-val}
-use lib.Ieee.Fits.{and-l, odd-fits, down-pos}
+use lib.Ieee.Fits.{odd-fits, down-pos}
+use lib.Ieee.Positive.{first-pos}
 use Rattle.floats.specs.OnBits.{isInteger}
+use Rattle.floats.proofs.Laws.Units.{held}
 
 -- ---- the zeros at the end of a number, counted in more digits than it has
 half-pos : (q : ℕ) → 0 < q → q % 2 ≡ 0 → 0 < q / 2
@@ -52,14 +54,6 @@ abbrev whole : ℤ → Bool
 whole (pos k) = true
 whole (negsuc k) = false
 
-odd-digits : (s : Bool) (m : ℕ) (e : ℤ) → T (fits binary32 (fin s (suc m) e)) → suc m % 2 ≡ 1
-unfolding fits
-odd-digits s m e t =
-    let A = eqb (suc m % 2) 1 in
-    let B = ltb (suc m) (2 ^ 24) in
-    let C = leb (down e) (2 ^ 149) in
-    eqb→eq (suc m % 2) 1 (and-l A B (and-l (A && B) C (and-l (A && B && C) (ltb (suc m * up e) (2 ^ 128 * down e)) t)))
-
 odd-is-not-zero : (r x : ℕ) → r ≡ 1 → r ≡ x → x ≡ 0 → ⊥
 odd-is-not-zero r x a b c = omega arith
 
@@ -79,7 +73,7 @@ whole-or-not : (s : Bool) (m : ℕ) (e : ℤ) → T (fits binary32 (fin s m e)) 
 unfolding isInteger
 whole-or-not s zero e t h = absurd (lt-irrefl 0 h)
 whole-or-not s (suc m) (pos k) t h = ap (λ (x : ℕ). eqb x 0) (mod-one (suc m * 2 ^ k))
-whole-or-not s (suc m) (negsuc k) t h = no-multiple (suc m) k (odd-digits s m (negsuc k) t)
+whole-or-not s (suc m) (negsuc k) t h = no-multiple (suc m) k (held binary32 s m (negsuc k) t .odd-digits)
 
 whole-of-minus : (a l : ℕ) → whole (minus a l) ≡ leb l a
 whole-of-minus a l = go (leb l a)
@@ -89,10 +83,6 @@ whole-of-minus a l = go (leb l a)
     go false = refl
 
 -- ---- q * 2 ^ x units of 2 ^ -149
-first-pos : (m u : ℕ) → 0 < m * u → 0 < m
-first-pos zero u h = absurd (lt-irrefl 0 (subst (λ (x : ℕ). 0 < x) (zero-mul u) h))
-first-pos (suc m) u h = zero-lt-suc m
-
 integer-of-units : (s : Bool) (q x : ℕ) → 0 < q → q < 2 ^ 24 → q * 2 ^ x < 2 ^ 277 → isInteger (odd 24 s q x 149) ≡ leb 149 (x + trailingZeros 24 q)
 unfolding odd
 integer-of-units s zero x p h k = absurd (lt-irrefl 0 p)

@@ -1,5 +1,5 @@
 -- A pattern with no sign that is at most the infinity's: what it stands for (`read-magnitude`). And a value that is no NaN, by its pattern
--- without the sign (`magnitude-of-bits`) and by the sign's bit (`sign-of-bits`). Assumes nothing.
+-- without the sign (`magnitude-of-bits`) and by the sign's bit (`clear-sign`, `set-sign`). Assumes nothing.
 use mathlib.Core.Path.{_≡_, refl, sym, ap, _∙_, subst}
 use mathlib.Core.Logic.{_⊎_, inl, inr}
 use mathlib.Core.Bool.{Bool, true, false, not, cond}

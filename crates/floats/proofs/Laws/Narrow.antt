@@ -6,18 +6,18 @@ use mathlib.Core.Path.{_≡_, refl, sym, ap, _∙_, subst}
 use mathlib.Core.Logic.{_⊎_, inl, inr}
 use mathlib.Core.Bool.{Bool, true, false, not, cond}
 use Prim.Native.Nat.{ℕ, suc, _+_, _-_, _*_, _/_, _%_, _^_, _≤_, _<_, min}
-use native.Mathlib.Nat.{le-trans, le-of-eq, le-of-lt, lt-of-lt-of-le, lt-of-le-of-lt, lt-of-not-le, not-le-of-lt, mul-comm, mul-assoc, mul-one, zero-add, mul-pos, div-lt-iff-lt-mul, le-div-iff-mul-le, mul-div-cancel, div-one}
+use native.Mathlib.Nat.{le-trans, le-of-eq, le-of-lt, lt-of-lt-of-le, lt-of-le-of-lt, mul-comm, mul-assoc, mul-one, zero-add, mul-pos, div-lt-iff-lt-mul, le-div-iff-mul-le, mul-div-cancel, div-one}
 use native.Mathlib.Omega.{arith}
 use lib.Dec.{T, lit<, lit≤, nltb→le}
 use lib.IntN.{ℤ}
-use lib.Pow.{pow-add, pow-pos, pow-mono, shl-lt}
+use lib.Pow.{pow-add, pow-pos, shl-lt}
 use lib.Ieee.{Float, nan, inf, fin, binary32, binary64, up, down, size, round, add, sum, fits, isNan, nanBits, toBits, ofBits}
 use lib.Ieee.Bits.{nanBits-is, nanBits-above, ofBits-toBits, toBits-lt}
 use lib.Ieee.Digits.{size-lt, size-le, size-reaches}
 use lib.Ieee.Fits.{down-pos, round-fits}
 use lib.Ieee.Nearest.{closest, closest-same, closest-mono}
 use Rattle.floats.proofs.Laws.Closest.{closest-add-even, closest-by-adding}
-use Rattle.floats.proofs.Laws.Place.{place, units-below, units-above, size-exact, round-bits, pattern}
+use Rattle.floats.proofs.Laws.Place.{place, size-above, units-below, units-above, size-exact, round-bits, pattern}
 use Rattle.floats.proofs.Laws.Units.{written, written-same, exponent, in-units, fits-digits, fits-signed, bits-of-sign, bits-under-top, round-number}
 use Rattle.floats.proofs.Laws.Magnitude.{Finite, read-magnitude, magnitude-is}
 use Rattle.floats.specs.Narrowing.{narrowed}
@@ -58,9 +58,6 @@ pub low-closest : (X : ℕ) → X < 2 ^ 948 → closest X (2 ^ 925) ≤ 2 ^ 23
 low-closest X h = closest-mono X (2 ^ 925) (2 ^ 23) 1 (pow-pos 925) (lit< tt) (le-trans (le-of-eq (mul-one X)) (le-of-lt h))
 
 -- ---- from it up
-size-above : (n j : ℕ) → 2 ^ j ≤ n → j < size n
-size-above n j h = lt-of-not-le (λ (g : size n ≤ j). not-le-of-lt (lt-of-lt-of-le (size-lt n) (pow-mono g)) h)
-
 -- t digits cut off
 size-cut : (n t : ℕ) → t < size n → size (n / 2 ^ t) ≡ size n - t
 size-cut n t h =

@@ -3,21 +3,21 @@
 -- Assumes nothing.
 use mathlib.Core.Path.{_≡_, refl, sym, ap, _∙_, subst}
 use mathlib.Core.Logic.{_⊎_, inl, inr}
-use mathlib.Core.Bool.{Bool, true, false, not, _&&_, _||_, cond}
+use mathlib.Core.Bool.{Bool, true, false, not, _&&_, _||_}
 use Prim.Native.Nat.{ℕ, zero, suc, _+_, _*_, _^_, _≤_, _<_}
 use native.Mathlib.Nat.{le-trans, le-of-eq, le-of-lt, le-antisymm, zero-add, mul-assoc, mul-right-comm, mul-le-mul-right, le-of-mul-le-mul-right, mul-pos, zero-mul}
 use native.Mathlib.Omega.{arith}
 use lib.Dec.{T, leb, ltb, eqb, leb→le, nleb→lt, ltb→lt, lt→ltb, eqb→eq}
 use lib.IntN.{ℤ, pos}
 use lib.Pow.{pow-pos}
-use lib.Ieee.{Float, nan, inf, fin, Format, binary32, binary64, prec, low, up, down, odd, units, round, neg, le, fits, hid, ones, toBits, ofBits}
+use lib.Ieee.{Float, nan, inf, fin, Format, binary32, binary64, prec, low, up, down, round, neg, le, fits, hid, ones, toBits, ofBits}
 use lib.Ieee.Bits.{ofBits-fits, ofBits-toBits}
 use lib.Ieee.Exact.{HasValue}
-use lib.Ieee.Fits.{and-l, down-pos, round-is, two, two-le-pos}
-use lib.Ieee.Order.{drop, kept, round-mono, le-of-values}
+use lib.Ieee.Fits.{and-l, down-pos, two, two-le-pos}
+use lib.Ieee.Order.{round-mono, le-of-values}
 use lib.Ieee.Scale.{round-same, overflow}
 use Rattle.floats.proofs.Laws.Place.{place, place-mono, place-of-overflow, bits-of-inf}
-use Rattle.floats.proofs.Laws.Units.{exponent, in-units, bits-of-value}
+use Rattle.floats.proofs.Laws.Units.{HasSign, round-has-sign, exponent, in-units, bits-of-value}
 use Rattle.floats.proofs.Laws.Magnitude.{Finite, read-magnitude}
 use Rattle.floats.proofs.Laws.Rounding.{round-holds, neg-round, fits-under}
 
@@ -168,21 +168,13 @@ le-across (fin false m e) (fin true n d) p q = absurd q
 le-across (fin false m e) (fin false n d) p q = under-zero (m * up e * down d) (n * up d * down e)
 
 -- ---- rounding with its sign
-odd-clear : (d q k l : ℕ) → T (clear (odd d false q k l))
-unfolding odd
-odd-clear d zero k l = tt
-odd-clear d (suc q) k l = tt
-
-units-clear : (f : Format) (q k : ℕ) → T (clear (units f false q k))
-unfolding units
-units-clear f q k = go (ltb (q * 2 ^ k) (overflow f))
-  where
-    go : (b : Bool) → T (clear (cond b (odd (suc (prec f)) false q k (low f)) (inf false)))
-    go true = odd-clear (suc (prec f)) q k (low f)
-    go false = tt
+clear-of-sign : (x : Float) → HasSign false x → T (clear x)
+clear-of-sign nan h = absurd h
+clear-of-sign (inf t) h = subst (λ (s : Bool). T (not s)) (sym h) tt
+clear-of-sign (fin t m e) h = subst (λ (s : Bool). T (not s)) (sym h) tt
 
 pub round-clear : (f : Format) (a c : ℕ) → T (clear (round f false a c))
-round-clear f a c = subst (λ (x : Float). T (clear x)) (sym (round-is f false a c)) (units-clear f (kept (prec f) (a * 2 ^ low f) c) (drop (prec f) (a * 2 ^ low f) c))
+round-clear f a c = clear-of-sign (round f false a c) (round-has-sign f false a c)
 
 zero-is : (f : Format) (s : Bool) → round f s 0 1 ≡ fin s 0 (pos 0)
 unfolding round

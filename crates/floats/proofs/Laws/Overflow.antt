@@ -12,10 +12,12 @@ use lib.Ieee.{Float, nan, inf, fin, Format, binary32, binary64, prec, emax, low,
 use lib.Ieee.Digits.{size-le}
 use lib.Ieee.Nearest.{closest}
 use lib.Ieee.Order.{drop, round-mono}
-use lib.Ieee.Scale.{grid, overflow}
+use lib.Ieee.Exact.{HasValue}
+use lib.Ieee.Scale.{grid, overflow, finite}
+use Rattle.floats.specs.Narrowing.{nearestF32}
 use Rattle.floats.proofs.Laws.Closest.{closest-above}
 use Rattle.floats.proofs.Laws.Place.{kept-le}
-use Rattle.floats.proofs.Laws.Rounding.{neg-round}
+use Rattle.floats.proofs.Laws.Rounding.{round-value, neg-round}
 
 abbrev pub halfway : Format → ℕ
 halfway f = 2 ^ suc (emax f) - 2 ^ (emax f - prec f)
@@ -96,3 +98,18 @@ module _ (f : Format) (a c : ℕ) (C : 0 < c) (small : a < halfway f * c) where
       go (inr l) =
           lt-of-le-of-lt (mul-le-mul-right (2 ^ drop (prec f) (a * 2 ^ low f) c) (kept-le (prec f) (a * 2 ^ low f) c))
           (lt-of-lt-of-le (subst (λ (x : ℕ). x < 2 ^ (prec f + most f)) (pow-add 2 (prec f) (drop (prec f) (a * 2 ^ low f) c)) (pow-lt (more (prec f) (drop (prec f) (a * 2 ^ low f) c) (most f) l))) (le-of-eq (pow-add 2 (prec f) (most f) ∙ sym (top-is f))))
+
+-- ---- the nearest f32 to a fraction, in document 01's numbers
+finite-of-value : (x : Float) (s : Bool) (a c : ℕ) → HasValue x s a c → T (finite x)
+finite-of-value nan s a c v = absurd v
+finite-of-value (inf t) s a c v = absurd v
+finite-of-value (fin t m e) s a c v = tt
+
+pub nearest-f32-infinite : (a c : ℕ) → 0 < c → (2 ^ 128 - 2 ^ 103) * c ≤ a → nearestF32 a c ≡ inf false
+unfolding nearestF32
+nearest-f32-infinite a c C h = round-overflows binary32 false a c C h
+
+pub nearest-f32-finite : (a c : ℕ) → 0 < c → a < (2 ^ 128 - 2 ^ 103) * c → T (finite (nearestF32 a c))
+unfolding nearestF32
+nearest-f32-finite a c C h =
+    finite-of-value (round binary32 false a c) false (grid binary32 a c) (2 ^ 149) (round-value binary32 false a c (round-stays binary32 a c C h))

@@ -6,7 +6,7 @@ use mathlib.Core.Path.{_≡_, refl, sym, ap, _∙_, subst}
 use mathlib.Core.Logic.{_⊎_, inl, inr}
 use mathlib.Core.Bool.{Bool, true, false, not, cond}
 use Prim.Native.Nat.{ℕ, zero, suc, _+_, _-_, _*_, _/_, _%_, _^_, _≤_, _<_, min, compare, zero-le}
-use native.Mathlib.Nat.{le-refl, le-trans, le-of-eq, le-of-lt, lt-of-lt-of-le, lt-of-le-of-lt, eq-or-lt-of-le, le-antisymm, eq-zero-or-pos, add-assoc, zero-add, add-zero, sub-le, zero-mul, mul-one, one-mul, mul-assoc, mul-le-mul-right, le-div-iff-mul-le, div-one, div-div-eq-div-mul, mul-div-cancel, pow-succ', add-le-add, lt-of-not-le, not-le-of-lt, le-of-suc-le-suc, lt-irrefl}
+use native.Mathlib.Nat.{le-refl, le-trans, le-of-eq, le-of-lt, lt-of-lt-of-le, lt-of-le-of-lt, eq-or-lt-of-le, le-antisymm, eq-zero-or-pos, add-assoc, zero-add, add-zero, sub-le, zero-mul, mul-one, one-mul, mul-assoc, mul-le-mul-right, le-div-iff-mul-le, div-one, div-div-eq-div-mul, mul-div-cancel, pow-succ', add-le-add, lt-of-not-le, not-le-of-lt, le-of-suc-le-suc}
 use native.Mathlib.Omega.{arith}
 use lib.Dec.{T, ltb, ltb→lt, nltb→le}
 use lib.IntN.{ℤ}
@@ -32,15 +32,16 @@ twice p h = ap (λ (x : ℕ). 2 ^ x) (back p h) ∙ pow-succ' 2 (p - 1) ∙ doub
     double : (x : ℕ) → 2 * x ≡ x + x
     double x = omega arith
 
-pow-lt-back : (i j : ℕ) → 2 ^ i < 2 ^ j → i < j
-pow-lt-back i j h = lt-of-not-le (λ (g : j ≤ i). lt-irrefl (2 ^ i) (lt-of-lt-of-le h (pow-mono g)))
+less-one : (p : ℕ) → 0 < p → p - 1 < p
+less-one p h = omega arith
+
+-- more than a digits
+pub size-above : (n a : ℕ) → 2 ^ a ≤ n → a < size n
+size-above n a h = lt-of-not-le (λ (g : size n ≤ a). not-le-of-lt (lt-of-lt-of-le (size-lt n) (pow-mono g)) h)
 
 -- a + 1 digits, from both sides
 pub size-exact : (a n : ℕ) → 2 ^ a ≤ n → n < 2 ^ suc a → size n ≡ suc a
 size-exact a n lo hi = le-antisymm (size-le n (suc a) hi) (size-above n a lo)
-  where
-    size-above : (n a : ℕ) → 2 ^ a ≤ n → a < size n
-    size-above n a h = pow-lt-back a (size n) (lt-of-le-of-lt h (size-lt n))
 
 -- ---- the place of a magnitude
 abbrev pub place : ℕ → ℕ → ℕ
@@ -104,7 +105,7 @@ place-of-grid p q k P h lead = go (eq-or-lt-of-le h) (eq-zero-or-pos k)
     go (inl e) z =
         ap (λ (x : ℕ). place p (x * 2 ^ k)) (e ∙ twice p P ∙ sym (mul-two (2 ^ (p - 1))))
         ∙ ap (place p) (mul-assoc (2 ^ (p - 1)) 2 (2 ^ k) ∙ ap (λ (x : ℕ). 2 ^ (p - 1) * x) (sym (pow-succ' 2 k)))
-        ∙ place-at p (2 ^ (p - 1)) (suc k) (full-drop p (2 ^ (p - 1)) (suc k) P (le-refl (2 ^ (p - 1))) (pow-lt (less p P)))
+        ∙ place-at p (2 ^ (p - 1)) (suc k) (full-drop p (2 ^ (p - 1)) (suc k) P (le-refl (2 ^ (p - 1))) (pow-lt (less-one p P)))
         ∙ sym (carried (2 ^ (p - 1)))
         ∙ ap (λ (x : ℕ). x + k * 2 ^ (p - 1)) (sym (twice p P))
         ∙ swap (2 ^ p) (k * 2 ^ (p - 1))
@@ -112,9 +113,6 @@ place-of-grid p q k P h lead = go (eq-or-lt-of-le h) (eq-zero-or-pos k)
       where
         mul-two : (x : ℕ) → x * 2 ≡ x + x
         mul-two x = omega arith
-
-        less : (p : ℕ) → 0 < p → p - 1 < p
-        less p P = omega arith
     go (inr l) (inl z) =
         place-at p q k
         (subst (λ (j : ℕ). size (q * 2 ^ j) - p ≡ j) (sym z) (none (size (q * 1)) p (size-le (q * 1) p (subst (λ (x : ℕ). x < 2 ^ p) (sym (mul-one q)) l))))
@@ -139,14 +137,11 @@ place-below p (suc i) X P h =
 
 place-above : (p i X : ℕ) → 0 < p → 2 ^ (p - 1 + i) ≤ X → suc i * 2 ^ (p - 1) ≤ place p X
 place-above p i X P h =
-    le-trans (le-of-eq (last i (2 ^ (p - 1)) ∙ sym (place-at p (2 ^ (p - 1)) i (full-drop p (2 ^ (p - 1)) i P (le-refl (2 ^ (p - 1))) (pow-lt (less p P))))))
+    le-trans (le-of-eq (last i (2 ^ (p - 1)) ∙ sym (place-at p (2 ^ (p - 1)) i (full-drop p (2 ^ (p - 1)) i P (le-refl (2 ^ (p - 1))) (pow-lt (less-one p P))))))
     (place-mono p (2 ^ (p - 1) * 2 ^ i) X P (le-trans (le-of-eq (sym (pow-add 2 (p - 1) i))) h))
   where
     last : (i h : ℕ) → suc i * h ≡ i * h + h
     last i h = omega arith
-
-    less : (p : ℕ) → 0 < p → p - 1 < p
-    less p P = omega arith
 
 pub units-below : (p i X : ℕ) → 0 < p → place p X < suc i * 2 ^ (p - 1) → X < 2 ^ (p - 1 + i)
 units-below p i X P h = lt-of-not-le (λ (g : 2 ^ (p - 1 + i) ≤ X). not-le-of-lt h (place-above p i X P g))
@@ -176,14 +171,11 @@ bits-of-inf f s = refl
 
 -- ---- the place from which on a rounded value is an infinity is the infinity's pattern
 pub place-of-overflow : (f : Format) → place (prec f) (overflow f) ≡ ones f * hid f
-place-of-overflow f = ap (place (prec f)) (as-grid f) ∙ place-of-grid (prec f) (hid f) (2 * emax f) (two-le-pos (prec f) (two f)) (pow-mono (less (prec f))) (λ _. le-refl (hid f)) ∙ last (emax f) (hid f)
+place-of-overflow f = ap (place (prec f)) (as-grid f) ∙ place-of-grid (prec f) (hid f) (2 * emax f) (two-le-pos (prec f) (two f)) (pow-mono (sub-le (prec f) 1)) (λ _. le-refl (hid f)) ∙ last (emax f) (hid f)
   where
     as-grid : (f : Format) → overflow f ≡ hid f * 2 ^ (2 * emax f)
     as-grid binary32 = refl
     as-grid binary64 = refl
-
-    less : (p : ℕ) → p - 1 ≤ p
-    less p = omega arith
 
     last : (e h : ℕ) → 2 * e * h + h ≡ (2 * e + 1) * h
     last e h = omega arith

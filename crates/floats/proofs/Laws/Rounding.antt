@@ -3,22 +3,22 @@
 -- binary64. Below that range half a unit comes to it (`rounding-error`). Assumes nothing.
 use mathlib.Core.Path.{_≡_, refl, sym, ap, _∙_, subst}
 use mathlib.Core.Logic.{_⊎_, inl, inr}
-use mathlib.Core.Bool.{Bool, true, false, not, _&&_, cond}
-use Prim.Native.Nat.{ℕ, zero, suc, _+_, _-_, _*_, _/_, _%_, _^_, _≤_, _<_}
-use native.Mathlib.Nat.{le-refl, le-add-left, le-add-right, eq-zero-or-pos, mul-one, le-trans, le-of-eq, lt-of-le-of-lt, lt-of-lt-of-le, zero-mul, mul-comm, mul-assoc, mul-right-comm, mul-le-mul-right, mul-lt-mul-of-pos-right, lt-of-mul-lt-mul-right, mul-pos, eq-of-mul-eq-mul-right, le-div-iff-mul-le, div-div-eq-div-mul}
+use mathlib.Core.Bool.{Bool, true, false, not, cond}
+use Prim.Native.Nat.{ℕ, zero, suc, _+_, _-_, _*_, _/_, _^_, _≤_, _<_}
+use native.Mathlib.Nat.{le-refl, le-add-left, le-add-right, eq-zero-or-pos, mul-one, le-trans, le-of-eq, lt-of-lt-of-le, mul-comm, mul-assoc, mul-right-comm, mul-le-mul-right, mul-lt-mul-of-pos-right, lt-of-mul-lt-mul-right, mul-pos, eq-of-mul-eq-mul-right, le-div-iff-mul-le, div-div-eq-div-mul}
 use native.Mathlib.Omega.{arith}
-use lib.Dec.{T, ltb, leb, eqb, ltb→lt}
+use lib.Dec.{T, ltb}
 use lib.IntN.{ℤ}
 use lib.Pow.{pow-add, pow-pos}
 use lib.Ieee.{Float, nan, inf, fin, Format, prec, emax, low, up, down, odd, units, round, neg, fits, top, toBits, ofBits}
 use lib.Ieee.Bits.{ofBits-toBits}
 use lib.Ieee.Exact.{HasValue, round-exact, units-val}
-use lib.Ieee.Fits.{and-r, down-pos, round-fits, round-is, two, two-le-pos}
+use lib.Ieee.Fits.{down-pos, round-fits, round-is, two, two-le-pos}
 use lib.Ieee.Order.{drop, kept}
 use lib.Ieee.Scale.{round-same, grid, overflow}
 use Rattle.floats.proofs.Laws.Closest.{closest-above, closest-below}
 use Rattle.floats.proofs.Laws.Place.{place, twice, kept-lead, bits-of-units}
-use Rattle.floats.proofs.Laws.Units.{exponent, in-units, fits-digits}
+use Rattle.floats.proofs.Laws.Units.{exponent, in-units, fits-digits, fits-top}
 
 -- ---- two values of a format that are the same number with the same sign are the same
 -- x is n units, with the sign s, wherever it is a / c and that is n units
@@ -36,12 +36,6 @@ same-value f x y s a c n C h p q v w =
     sym (ofBits-toBits f x p) ∙ ap (ofBits f) (in-these-units f x s a c n C h v ∙ sym (in-these-units f y s a c n C h w)) ∙ ofBits-toBits f y q
 
 -- ---- a value that the format holds rounds to itself
-fits-top : (f : Format) (s : Bool) (m : ℕ) (e : ℤ) → T (fits f (fin s m e)) → m * up e < 2 ^ suc (emax f) * down e
-unfolding fits
-fits-top f s zero e t = lt-of-le-of-lt (le-of-eq (zero-mul (up e))) (mul-pos (pow-pos (suc (emax f))) (down-pos e))
-fits-top f s (suc m) e t =
-    ltb→lt (suc m * up e) (2 ^ suc (emax f) * down e) (and-r (eqb (suc m % 2) 1 && ltb (suc m) (2 ^ prec f) && leb (down e) (2 ^ low f)) (ltb (suc m * up e) (2 ^ suc (emax f) * down e)) t)
-
 pub fits-under : (f : Format) (s : Bool) (m : ℕ) (e : ℤ) → T (fits f (fin s m e)) → m * 2 ^ exponent (low f) e < overflow f
 fits-under f s m e t =
     lt-of-mul-lt-mul-right (down e)
