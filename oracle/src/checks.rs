@@ -2,11 +2,16 @@
 
 use crate::common::{dd_fmla, is_integerf};
 use crate::compare::Tally;
-use crate::compound::compoundf::f_compoundf;
 use crate::double_double::DoubleDouble;
+use crate::draw::Pair;
 use crate::ours;
 use crate::rounding::round_ties_even::round_ties_even;
-use crate::values::{each_f32, each_f64, each_for_narrow, each_for_rounding, each_tuple, Share};
+use crate::told::{self, Route, Told};
+use crate::values::{
+    each_f32, each_f64, each_for_narrow, each_for_rounding, each_pair, each_pattern, each_tuple,
+    Share,
+};
+use Route::{Edge, Fast, Rule, Slow, Whole};
 
 // A name for the report, and what does one thread's share of the comparing.
 pub type Check = (&'static str, fn(&mut Tally, &Share));
@@ -87,33 +92,55 @@ pub const CHECKS: [Check; 19] = [
     }),
 ];
 
-// The table "Pairs at the edges" of document 01: x, y, and the answer for them.
-const PAIRS: [[u32; 3]; 17] = [
-    [0x00000000, 0x7f800000, 0x3f800000],
-    [0x00000000, 0x7fc00000, 0x7fc00000],
-    [0xbf800000, 0x80000000, 0x3f800000],
-    [0xbf800000, 0x3f800000, 0x00000000],
-    [0xbf800000, 0xbf800000, 0x7f800000],
-    [0xbf800001, 0x00000000, 0x7fc00000],
-    [0x3f000000, 0x40000000, 0x40100000],
-    [0x3f800000, 0x41800000, 0x47800000],
-    [0x3f800000, 0xc1800000, 0x37800000],
-    [0x31000000, 0x41800000, 0x3f800000],
-    [0x5f7fffff, 0x3f800000, 0x5f7fffff],
-    [0x5f800000, 0x3f800000, 0x5f800000],
-    [0x3f800000, 0x3f000000, 0x3fb504f3],
-    [0x3f800000, 0x43000000, 0x7f800000],
-    [0x3f800000, 0xc3160000, 0x00000000],
-    [0x3f800000, 0xc3150000, 0x00000001],
-    [0x21800000, 0x5d800000, 0x3f800000],
+// The answers for pairs, with their routes: pairs that are drawn.
+pub const DRAWN_PAIRS: Check = ("compoundf, drawn pairs", |t, s| each_pair(s, |p| note_pair(t, p)));
+
+// And every x with one y: a whole one, one next to 1, and a whole one past the route of whole ones.
+pub const SWEEPS: [Check; 3] = [
+    ("compoundf, every x, y = 7", |t, s| each_pattern(s, |x| note_pair(t, [x, 0x40e0_0000]))),
+    ("compoundf, every x, y = 0.99999", |t, s| each_pattern(s, |x| note_pair(t, [x, 0x3f7f_ff58]))),
+    ("compoundf, every x, y = 100000", |t, s| each_pattern(s, |x| note_pair(t, [x, 0x47c3_5000]))),
+];
+
+// Compares one pair.
+#[inline(always)]
+fn note_pair(tally: &mut Tally, pair: Pair) {
+    tally.note_told(pair, told::ours(pair), told::rust(pair));
+}
+
+// Compares the pairs of a list.
+pub fn listed_pairs(pairs: &[Pair]) -> Tally {
+    let mut tally = Tally::default();
+    pairs.iter().for_each(|&pair| note_pair(&mut tally, pair));
+    tally
+}
+
+// The table "Pairs at the edges" of document 01: x and y, and the answer and the route for them.
+pub const PAIRS: [(Pair, u32, Route); 17] = [
+    ([0x00000000, 0x7f800000], 0x3f800000, Rule),
+    ([0x00000000, 0x7fc00000], 0x7fc00000, Rule),
+    ([0xbf800000, 0x80000000], 0x3f800000, Rule),
+    ([0xbf800000, 0x3f800000], 0x00000000, Rule),
+    ([0xbf800000, 0xbf800000], 0x7f800000, Rule),
+    ([0xbf800001, 0x00000000], 0x7fc00000, Rule),
+    ([0x3f000000, 0x40000000], 0x40100000, Whole),
+    ([0x3f800000, 0x41800000], 0x47800000, Whole),
+    ([0x3f800000, 0xc1800000], 0x37800000, Whole),
+    ([0x31000000, 0x41800000], 0x3f800000, Whole),
+    ([0x5f7fffff, 0x3f800000], 0x5f7fffff, Whole),
+    ([0x5f800000, 0x3f800000], 0x5f800000, Fast),
+    ([0x3f800000, 0x3f000000], 0x3fb504f3, Fast),
+    ([0x3f800000, 0x43000000], 0x7f800000, Edge),
+    ([0x3f800000, 0xc3160000], 0x00000000, Edge),
+    ([0x3f800000, 0xc3150000], 0x00000001, Slow),
+    ([0x21800000, 0x5d800000], 0x3f800000, Edge),
 ];
 
 // The document's answers beside the Rust's: the copied files are the function that it speaks of.
 pub fn document_pairs() -> Tally {
     let mut tally = Tally::default();
-    for [x, y, r] in PAIRS {
-        let rust = f_compoundf(f32::from_bits(x), f32::from_bits(y));
-        tally.note([x, y], f32::from_bits(r), rust);
+    for (pair, r, via) in PAIRS {
+        tally.note(pair, Told { r, via: via as u32 }, told::rust(pair));
     }
     tally
 }

@@ -1,6 +1,8 @@
 // When two results are equal, and how many of them were.
 
 use crate::double_double::DoubleDouble;
+use crate::draw::Pair;
+use crate::told::{Told, WORDS};
 
 // How many differing inputs a line of the report shows.
 const SHOWN: usize = 5;
@@ -50,6 +52,18 @@ macro_rules! float_pattern {
 
 float_pattern! { f32, f64 }
 
+impl Pattern for String {
+    // Plainly equal.
+    fn same(&self, other: &Self) -> bool {
+        self == other
+    }
+
+    // A line stands for itself, without its line feed.
+    fn hex(&self) -> String {
+        self.trim_end().to_string()
+    }
+}
+
 impl Pattern for DoubleDouble {
     // Both parts the same.
     fn same(&self, other: &Self) -> bool {
@@ -67,6 +81,7 @@ impl Pattern for DoubleDouble {
 pub struct Tally {
     compared: u64,
     differ: u64,
+    by_route: [u64; WORDS.len()],
     shown: Vec<String>,
 }
 
@@ -83,6 +98,13 @@ impl Tally {
         if !ours.same(&rust) {
             self.note_difference(input, ours, rust);
         }
+    }
+
+    // Counts one comparison of answers with their routes, under the route of the Rust.
+    #[inline(always)]
+    pub fn note_told(&mut self, pair: Pair, ours: Told, rust: Told) {
+        self.by_route[rust.via as usize] += 1;
+        self.note(pair, ours, rust);
     }
 
     // Counts one difference and keeps the first few in words.
@@ -108,14 +130,30 @@ impl Tally {
     pub fn plus(mut self, other: Tally) -> Tally {
         self.compared += other.compared;
         self.differ += other.differ;
+        self.by_route.iter_mut().zip(other.by_route).for_each(|(all, more)| *all += more);
         self.shown.extend(other.shown);
         self.shown.truncate(SHOWN);
         self
     }
 
-    // Prints the line of one function and says whether all was equal.
+    // Whether each route has a tenth of the pairs. If not, it says so.
+    pub fn reaches_all_routes(&self) -> bool {
+        let all = self.by_route.iter().all(|&pairs| pairs * 10 >= self.compared);
+        if !all {
+            println!("  a route has less than a tenth of these pairs");
+        }
+        all
+    }
+
+    // Prints the line of one function, and one for the routes if there are any, and says whether
+    // all was equal.
     pub fn report(&self, name: &str) -> bool {
         println!("{name}: {} compared, {} differ", grouped(self.compared), grouped(self.differ));
+        if self.by_route.iter().any(|&pairs| pairs > 0) {
+            let parts = WORDS.iter().zip(self.by_route);
+            let parts: Vec<_> = parts.map(|(word, n)| format!("{word} {}", grouped(n))).collect();
+            println!("  {}", parts.join(", "));
+        }
         for line in &self.shown {
             println!("{line}");
         }

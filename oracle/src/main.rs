@@ -1,6 +1,7 @@
 // The Rust beside it: compares the exports of our static library with the crate's own functions,
-// value by value. Without an argument in the short form, with `long` in the long one. With `bench` it
-// measures both instead.
+// value by value. Without an argument in the short form, with `long` in the long one; with
+// `compound` only the answers for pairs. With `bench` it measures both instead, and with `vectors`
+// it writes the list of pairs for the replay.
 
 #![allow(dead_code)]
 
@@ -11,14 +12,17 @@ mod common;
 mod compare;
 mod compound;
 mod double_double;
+mod draw;
 mod dyadic_float;
 mod edges;
 mod ours;
 mod random;
 mod rounding;
+mod told;
 mod values;
+mod vectors;
 
-use checks::{document_pairs, Check, CHECKS};
+use checks::{document_pairs, listed_pairs, Check, CHECKS, DRAWN_PAIRS, PAIRS, SWEEPS};
 use compare::Tally;
 use std::process::ExitCode;
 use values::Share;
@@ -27,33 +31,74 @@ use values::Share;
 const _: () = assert!(!cfg!(target_feature = "fma") && !cfg!(target_feature = "sse4.1"));
 const _: () = assert!(cfg!(target_arch = "x86_64"));
 
-// Runs every check and prints a line for each.
+// How many random values a thread draws: in the short form, in the long one, and there of pairs.
+const SHORT: u64 = 10_000_000;
+const LONG: u64 = 36_000_000;
+const LONG_PAIRS: u64 = 500_000_000;
+
+// Does what the arguments say.
 fn main() -> ExitCode {
     let words: Vec<String> = std::env::args().skip(1).collect();
-    let long = match words.iter().map(String::as_str).collect::<Vec<_>>()[..] {
-        [] => false,
-        ["long"] => true,
+    let equal = match words.iter().map(String::as_str).collect::<Vec<_>>()[..] {
+        [] => compare(false, true),
+        ["long"] => compare(true, true),
+        ["compound"] => compare(false, false),
+        ["long", "compound"] => compare(true, false),
         ["bench"] => {
             bench::bench();
             return ExitCode::SUCCESS;
         }
+        ["vectors"] => {
+            vectors::write();
+            return ExitCode::SUCCESS;
+        }
         _ => {
-            eprintln!("oracle: the arguments are none, `long` or `bench`");
+            eprintln!("oracle: the arguments are [long] [compound], or bench, or vectors");
             return ExitCode::from(2);
         }
     };
-    println!("seed: {:016x}", random::SEED);
-    let mut equal = document_pairs().report("pairs of document 01");
-    for check in CHECKS {
-        equal &= run(check, long).report(check.0);
-    }
     println!("oracle: {}", if equal { "all equal" } else { "DIFFERENCES FOUND" });
     ExitCode::from(!equal as u8)
 }
 
+// Runs the checks, those of the parts too if wanted, and prints a line for each.
+fn compare(long: bool, parts: bool) -> bool {
+    println!("seed: {:016x}", random::SEED);
+    let mut equal = document_pairs().report("pairs of document 01");
+    if parts {
+        for check in CHECKS {
+            equal &= run(check, long, if long { LONG } else { SHORT }).report(check.0);
+        }
+    }
+    equal & compare_compound(long)
+}
+
+// The checks of the answers for pairs.
+fn compare_compound(long: bool) -> bool {
+    let mut equal = true;
+    let midpoints = [draw::midpoints(), draw::almost_midpoints()].concat();
+    let list = vectors::list();
+    for (name, pairs) in [
+        ("compoundf, pairs of document 01", &PAIRS.map(|row| row.0)[..]),
+        ("compoundf, answers by midpoints", &midpoints),
+        ("compoundf, pairs of the replay", &list),
+    ] {
+        equal &= listed_pairs(pairs).report(name);
+    }
+    for (file, lines) in vectors::on_disk(&list) {
+        equal &= lines.report(file);
+    }
+    let drawn = run(DRAWN_PAIRS, long, if long { LONG_PAIRS } else { SHORT });
+    equal &= drawn.report(DRAWN_PAIRS.0) & drawn.reaches_all_routes();
+    for check in SWEEPS.into_iter().filter(|_| long) {
+        equal &= run(check, long, 0).report(check.0);
+    }
+    equal
+}
+
 // One check: on one thread in the short form, on two in the long one.
-fn run((_, compare): Check, long: bool) -> Tally {
-    let (parts, random) = if long { (2, 36_000_000) } else { (1, 10_000_000) };
+fn run((_, compare): Check, long: bool, random: u64) -> Tally {
+    let parts = if long { 2 } else { 1 };
     std::thread::scope(|scope| {
         let start = |part| {
             scope.spawn(move || {

@@ -37,6 +37,7 @@ unsafe extern "C" {
     pub safe fn fade_absf(x: f32) -> f32;
     pub safe fn fade_abs(x: f64) -> f64;
     pub safe fn fade_dd_fmla(a: f64, b: f64, c: f64) -> f64;
+    pub safe fn fade_compoundf(x: u32, y: u32) -> u64;
 
     safe fn fade_split(a: f64) -> Pair;
     safe fn fade_from_exact_mult(a: f64, b: f64) -> Pair;

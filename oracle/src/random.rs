@@ -27,6 +27,30 @@ impl Random {
         self.bits() % n
     }
 
+    // Any f32 pattern.
+    #[inline(always)]
+    pub fn pattern(&mut self) -> u32 {
+        self.bits() as u32
+    }
+
+    // A number from low to high, both included.
+    #[inline(always)]
+    pub fn within(&mut self, low: u32, high: u32) -> u32 {
+        low + self.below((high - low) as u64 + 1) as u32
+    }
+
+    // One of the list.
+    #[inline(always)]
+    pub fn pick<T: Copy>(&mut self, list: &[T]) -> T {
+        list[self.below(list.len() as u64) as usize]
+    }
+
+    // A number from low up to, but without, high.
+    #[inline(always)]
+    pub fn real(&mut self, low: f64, high: f64) -> f64 {
+        low + (high - low) * (self.bits() >> 11) as f64 / (1u64 << 53) as f64
+    }
+
     // Any f64 pattern.
     #[inline(always)]
     pub fn any(&mut self) -> f64 {

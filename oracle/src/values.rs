@@ -1,5 +1,6 @@
 // Which values each kind of function is given: edges, random ones, or a whole range.
 
+use crate::draw::{self, Pair};
 use crate::edges::{around, f32_patterns, f64_values, fractions, power, tuple_values};
 use crate::random::Random;
 
@@ -32,11 +33,23 @@ impl Share {
 // f32 patterns: edges and random ones; in the long form every pattern there is.
 pub fn each_f32(share: &Share, mut f: impl FnMut(u32)) {
     if share.long {
-        share.piece(1 << 32).for_each(|p| f(p as u32));
-        return;
+        return each_pattern(share, f);
     }
     f32_patterns().for_each(&mut f);
     share.randomly(|r, _| f(r.bits() as u32));
+}
+
+// Every f32 pattern there is. The threads take turns, block by block, as not all cost the same.
+pub fn each_pattern(share: &Share, mut f: impl FnMut(u32)) {
+    const BITS: u32 = 20;
+    for block in (share.part as u32..1 << (32 - BITS)).step_by(share.parts as usize) {
+        (0..1 << BITS).for_each(|low| f(block << BITS | low));
+    }
+}
+
+// Pairs of f32 patterns, drawn as draw.rs says.
+pub fn each_pair(share: &Share, mut f: impl FnMut(Pair)) {
+    share.randomly(|r, i| f(draw::pair(r, i)));
 }
 
 // f64s: the edges of every exponent, and random ones of any and of moderate size.

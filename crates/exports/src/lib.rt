@@ -1,12 +1,17 @@
 // The functions that Rust and C can call, under the C calling convention: numbers pass as
 // themselves, and a double-double as a C struct of two doubles, lo and hi. Each is one call of the
-// function of the same name below, and says the same of its result. None has a `requires`.
+// function of the same name below, and says the same of its result, but for `fade_compoundf`, which
+// packs the answer into one number. None has a `requires`.
+use compound::Answer;
 use double_double::DoubleDouble;
 ghost use mathlib.Core.Path.{_≡_};
 ghost use lib.Ieee.{binary32, binary64, toBits, ofBits};
 ghost use Rattle.floats.specs.Narrowing.{narrowed, nearestWhole};
 ghost use Rattle.floats.specs.OnBits.{absolute, isInteger};
 ghost use Rattle.double_double.specs.DoubleDouble as spec;
+ghost use Rattle.compound.specs.Route.{compound};
+ghost use Rattle.exports.specs.Packed.{packed};
+ghost use Prim.Native.Nat.{_+_, _*_, _^_, _<_};
 
 // The pattern of an f32; 7fc00000 for a NaN.
 #[no_mangle]
@@ -150,4 +155,29 @@ pub extern "C" fn fade_dd_fmla(a: f64, b: f64, c: f64) -> f64
     ensures { λ r. ⌜ r ≡ spec.ddFmla a b c ⌝ }
 {
     double_double::dd_fmla(a, b, c)
+}
+
+// (1 + x)^y for the patterns x and y of two f32: the route's number in the upper half, from 0 in the
+// order rule, whole, edge, fast, slow, and the pattern of the answer in the lower half, 7fc00000 for a
+// NaN.
+#[no_mangle]
+pub extern "C" fn fade_compoundf(x: u32, y: u32) -> u64
+    ensures { λ r. ⌜ r ≡ packed (compound (ofBits binary32 x) (ofBits binary32 y)) ⌝ }
+{
+    let answer = compound::f_compoundf(x, y);
+    match answer {
+        Answer::Rule(r) => halves(0, r),
+        Answer::Whole(r) => halves(1, r),
+        Answer::Edge(r) => halves(2, r),
+        Answer::Fast(r) => halves(3, r),
+        Answer::Slow(r) => halves(4, r),
+    }
+}
+
+// via in the upper half, and the pattern of r in the lower.
+fn halves(via: u64, r: f32) -> u64
+    requires { ⌜ via < 5 ⌝ }
+    ensures { λ n. ⌜ n ≡ via * 2 ^ 32 + toBits binary32 r ⌝ }
+{
+    via * 0x1_0000_0000 + floats::patterns::to_bits_f32(r) as u64
 }

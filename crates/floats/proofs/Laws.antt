@@ -1,4 +1,4 @@
--- Laws of the kit's account of IEEE 754, each stated once over the format where it holds for both. The first eight are for every crate above;
+-- Laws of the kit's account of IEEE 754, each stated once over the format where it holds for both. The first thirteen are for every crate above;
 -- the last three say why the functions of this crate are right.
 pub mod Nan  -- which values and patterns are a NaN's
 pub mod Closest  -- the nearest whole number to a fraction
@@ -7,7 +7,12 @@ pub mod Units  -- a value as a number of its format's smallest values
 pub mod Magnitude  -- a pattern without its sign
 pub mod Rounding  -- one rounding: a value that is held, the sign, the error
 pub mod Order  -- rounding keeps the order, and patterns have it
+pub mod Compare  -- comparisons by patterns, whatever the signs
 pub mod Overflow  -- where rounding gives an infinity
+pub mod Sums  -- the order of sums, and the distance to the nearest whole value
+pub mod Powers  -- a normal value times a power of two
+pub mod Nearby  -- a normal value plus one that is small beside it
+pub mod Cast  -- where the cast of a value to an integer is defined
 pub mod Narrow  -- narrowing by the pattern
 pub mod Whole  -- the nearest whole value by an addition
 pub mod Integer  -- a whole number told by its bits

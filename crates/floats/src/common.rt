@@ -1,9 +1,5 @@
 // The absolute value, and the test for a whole number that pxfm 0.1.30 has in `common.rs` (NOTICE),
 // each worked out on bits.
-use crate::patterns::from_bits_f32;
-use crate::patterns::from_bits_f64;
-use crate::patterns::to_bits_f32;
-use crate::patterns::to_bits_f64;
 ghost use mathlib.Core.Path.{_≡_};
 ghost use lib.Ieee.{binary32, ofBits};
 ghost use Rattle.floats.specs.OnBits.{absolute, isInteger};
@@ -12,14 +8,20 @@ ghost use Rattle.floats.specs.OnBits.{absolute, isInteger};
 pub fn absf(x: f32) -> f32
     ensures { λ r. ⌜ r ≡ absolute x ⌝ }
 {
-    from_bits_f32(to_bits_f32(x) % 0x8000_0000)
+    if x != x {
+        return x;
+    }
+    f32::from_bits(f32::to_bits(x) % 0x8000_0000)
 }
 
 // |x| of an f64. A NaN gives the NaN.
 pub fn abs(x: f64) -> f64
     ensures { λ r. ⌜ r ≡ absolute x ⌝ }
 {
-    from_bits_f64(to_bits_f64(x) % 0x8000_0000_0000_0000)
+    if x != x {
+        return x;
+    }
+    f64::from_bits(f64::to_bits(x) % 0x8000_0000_0000_0000)
 }
 
 // Whether the f32 of the pattern n is a whole number. As in the source a zero does not count as

@@ -18,8 +18,6 @@ pub fn round_ties_even(x: f64) -> f64
     }
     // from 2^52 to 2^53 the f64s are the whole numbers, so the sum is rounded to a whole number
     let w = f64::from_bits(m) + 4503599627370496.0 - 4503599627370496.0;
-    if n < 0x8000_0000_0000_0000 {
-        return w;
-    }
-    -w
+    // with the sign of x
+    f64::from_bits(f64::to_bits(w) + (n - m))
 }

@@ -4,11 +4,11 @@ use mathlib.Core.Path.{_≡_, refl, sym, ap, _∙_, subst}
 use mathlib.Core.Logic.{_⊎_, inl, inr}
 use mathlib.Core.Bool.{Bool, true, false, not, cond}
 use Prim.Native.Nat.{ℕ, _+_, _*_, _%_, _^_, _≤_, _<_}
-use native.Mathlib.Nat.{zero-add, lt-of-le-of-lt, not-le-of-lt, mod-eq-of-lt, add-mod-left}
+use native.Mathlib.Nat.{zero-add, le-of-eq, le-of-lt, lt-of-le-of-lt, not-le-of-lt, mod-eq-of-lt, add-mod-left}
 use native.Mathlib.Omega.{arith}
 use lib.Dec.{T, lit<}
 use lib.IntN.{ℤ}
-use lib.Ieee.{Float, nan, inf, fin, Format, binary32, binary64, prec, low, hid, ones, top, neg, fits, isNan, toBits, ofBits}
+use lib.Ieee.{Float, nan, inf, fin, Format, binary32, binary64, prec, low, hid, ones, top, neg, fits, isNan, nanBits, toBits, ofBits}
 use lib.Ieee.Bits.{nanBits-is, ofBits-fits, ofBits-toBits, toBits-ofBits}
 use Rattle.floats.specs.OnBits.{absolute}
 use Rattle.floats.proofs.Laws.Nan.{number-of-below}
@@ -61,6 +61,14 @@ read-magnitude f m h = go (ofBits f m) refl number (ofBits-fits f m) (toBits-ofB
       at = sym b ∙ bits-of-value f false d p t ∙ zero-add (place (prec f) (d * 2 ^ exponent (low f) p));
     })
 
+-- below it, a finite value
+pub below-infinity : (f : Format) (m : ℕ) → m < ones f * hid f → Finite f m
+below-infinity f m h = go (read-magnitude f m (le-of-lt h))
+  where
+    go : ((ofBits f m ≡ inf false) × (m ≡ ones f * hid f)) ⊎ Finite f m → Finite f m
+    go (inl z) = absurd (not-le-of-lt h (le-of-eq (sym (z .1))))
+    go (inr v) = v
+
 -- ---- a value that is no NaN, by its pattern
 with-sign : (s : Bool) (c a : ℕ) → a < c → (cond s c 0 + a) % c ≡ a
 with-sign true c a h = add-mod-left c a ∙ mod-eq-of-lt h
@@ -94,9 +102,19 @@ absolute-of-bits binary64 nan t = refl
 absolute-of-bits f (inf s) t = magnitude-is f (inf s) t tt
 absolute-of-bits f (fin s m e) t = magnitude-is f (fin s m e) t tt
 
--- what `absf` and `abs` are made of: n is the pattern of x, and r the value of n without its sign
-pub absolute-by-bits : (f : Format) (x : Float) (n : ℕ) (r : Float) → T (fits f x) → n ≡ toBits f x → r ≡ ofBits f (n % top f) → r ≡ absolute x
-absolute-by-bits f x n r t p q = q ∙ ap (λ (k : ℕ). ofBits f (k % top f)) p ∙ absolute-of-bits f x t
+-- what `absf` and `abs` are made of: a NaN is its own size, and another pattern without its sign is no NaN's
+pub absolute-of-nan : (x : Float) → x ≡ nan → x ≡ absolute x
+unfolding absolute
+absolute-of-nan x e = e ∙ sym (ap absolute e)
+
+pub absolute-number : (x : Float) → T (not (isNan x)) → T (not (isNan (absolute x)))
+unfolding absolute isNan
+absolute-number nan n = absurd n
+absolute-number (inf s) n = tt
+absolute-number (fin s m e) n = tt
+
+pub magnitude-number : (f : Format) (x : Float) → T (fits f x) → T (not (isNan x)) → T (not (nanBits f (toBits f x % top f)))
+magnitude-number f x t n = subst (λ (b : Bool). T (not b)) (sym (nanBits-is f (toBits f x % top f) ∙ ap isNan (magnitude-is f x t n))) (absolute-number x n)
 
 -- ---- the sign's bit
 pub clear-sign : (f : Format) (x : Float) → T (fits f x) → T (not (isNan x)) → toBits f x < top f → absolute x ≡ x

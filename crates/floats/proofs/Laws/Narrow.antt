@@ -18,8 +18,9 @@ use lib.Ieee.Fits.{down-pos, round-fits}
 use lib.Ieee.Nearest.{closest, closest-same, closest-mono}
 use Rattle.floats.proofs.Laws.Closest.{closest-add-even, closest-by-adding}
 use Rattle.floats.proofs.Laws.Place.{place, size-above, units-below, units-above, size-exact, round-bits, pattern}
+use Rattle.floats.proofs.Laws.Rounding.{round-self}
 use Rattle.floats.proofs.Laws.Units.{written, written-same, exponent, in-units, fits-digits, fits-signed, bits-of-sign, bits-under-top, round-number}
-use Rattle.floats.proofs.Laws.Magnitude.{Finite, read-magnitude, magnitude-is}
+use Rattle.floats.proofs.Laws.Magnitude.{Finite, read-magnitude, below-infinity, magnitude-is}
 use Rattle.floats.specs.Narrowing.{narrowed}
 use Rattle.floats.specs.OnBits.{absolute}
 
@@ -223,15 +224,8 @@ module _ (m : ℕ) (v : Finite binary64 m) where
       ∙ ap (λ (x : ℕ). min ((x + 268435455 + x / 536870912 % 2) / 536870912 - 7516192768) 0x7f800000) (sym (v .at))
 
 -- ---- every magnitude up to the infinity
-no-less : (m : ℕ) → m < 897 * 2 ^ 52 → m ≡ 0x7ff0000000000000 → ⊥
-no-less m h e = omega arith
-
 pub low-finite : (m : ℕ) → m < 897 * 2 ^ 52 → Finite binary64 m
-low-finite m h = go (read-magnitude binary64 m (le-trans (le-of-lt h) (lit≤ tt)))
-  where
-    go : ((ofBits binary64 m ≡ inf false) × (m ≡ 0x7ff0000000000000)) ⊎ Finite binary64 m → Finite binary64 m
-    go (inl z) = absurd (no-less m h (z .1))
-    go (inr v) = v
+low-finite m h = below-infinity binary64 m (lt-of-lt-of-le h (lit≤ tt))
 
 pub normal-magnitude : (m : ℕ) → m ≤ 0x7ff0000000000000 → 897 * 2 ^ 52 ≤ m
     → toBits binary32 (narrowed (ofBits binary64 m)) ≡ min ((m + 268435455 + m / 536870912 % 2) / 536870912 - 7516192768) 0x7f800000
@@ -245,8 +239,15 @@ normal-magnitude m h k = go (read-magnitude binary64 m h)
         ∙ ap (λ (x : ℕ). min ((x + 268435455 + x / 536870912 % 2) / 536870912 - 7516192768) 0x7f800000) (sym (z .1))
     go (inr v) = normal-pattern m v k
 
+-- an f32 narrows to itself
+pub narrowed-same : (x : Float) → T (fits binary32 x) → narrowed x ≡ x
+unfolding narrowed
+narrowed-same nan t = refl
+narrowed-same (inf s) t = refl
+narrowed-same (fin s m e) t = round-self binary32 s m e t
+
 -- ---- with its sign
-narrowed-fits : (x : Float) → T (fits binary32 (narrowed x))
+pub narrowed-fits : (x : Float) → T (fits binary32 (narrowed x))
 unfolding narrowed
 narrowed-fits nan = unfold fits in tt
 narrowed-fits (inf s) = unfold fits in tt

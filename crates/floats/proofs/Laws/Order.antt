@@ -22,7 +22,7 @@ use Rattle.floats.proofs.Laws.Magnitude.{Finite, read-magnitude}
 use Rattle.floats.proofs.Laws.Rounding.{round-holds, neg-round, fits-under}
 
 -- ---- what `le` says of two finite values whose sign is clear
-or-split : (a b : Bool) → T (a || b) → T a ⊎ T b
+pub or-split : (a b : Bool) → T (a || b) → T a ⊎ T b
 or-split true b t = inl tt
 or-split false b t = inr t
 
@@ -114,7 +114,7 @@ order-of-patterns f x y p q t u h = go (le-either x y p q)
     go (inr k) = subst (λ (z : Float). T (le x z)) (same k) (subst (λ (z : Float). T (le z x)) (sym (same k)) k)
 
 -- ---- the other signs
-or-l : (a b : Bool) → T a → T (a || b)
+pub or-l : (a b : Bool) → T a → T (a || b)
 or-l true b t = tt
 or-l false b t = absurd t
 

@@ -22,7 +22,7 @@ use Rattle.floats.proofs.Laws.Units.{exponent, in-units, fits-digits, f
 
 -- ---- two values of a format that are the same number with the same sign are the same
 -- x is n units, with the sign s, wherever it is a / c and that is n units
-in-these-units : (f : Format) (x : Float) (s : Bool) (a c n : ℕ) → 0 < c → a * 2 ^ low f ≡ n * c → HasValue x s a c → toBits f x ≡ cond s (top f) 0 + place (prec f) n
+pub in-these-units : (f : Format) (x : Float) (s : Bool) (a c n : ℕ) → 0 < c → a * 2 ^ low f ≡ n * c → HasValue x s a c → toBits f x ≡ cond s (top f) 0 + place (prec f) n
 in-these-units f nan s a c n C h v = absurd v
 in-these-units f (inf t) s a c n C h v = absurd v
 in-these-units f (fin t m e) s a c n C h v =

@@ -2,15 +2,15 @@
 -- |x| + 2 ^ 52 is rounded to a whole number, ties to even, and taking 2 ^ 52 off again is exact (`low-whole`). From 2 ^ 52 up every f64
 -- is whole (`high-whole`). An f64 holds the nearest whole number (`nearest-whole-exact`). Assumes nothing.
 use mathlib.Core.Path.{_≡_, refl, sym, ap, _∙_, subst}
-use mathlib.Core.Bool.{Bool, true, false, not}
-use Prim.Native.Nat.{ℕ, suc, _+_, _-_, _*_, _/_, _%_, _^_, _≤_, _<_}
+use mathlib.Core.Bool.{Bool, true, false, not, cond}
+use Prim.Native.Nat.{ℕ, suc, _+_, _-_, _*_, _/_, _%_, _^_, _≤_, _<_, min}
 use native.Mathlib.Nat.{le-trans, le-of-eq, le-of-lt, lt-of-lt-of-le, lt-of-le-of-lt, not-le-of-lt, mul-one, mul-comm, mul-assoc, mul-right-comm, mul-le-mul-left, mul-le-mul-right, mul-lt-mul-of-pos-right, lt-of-mul-lt-mul-right, mul-pos, eq-of-mul-eq-mul-right, div-lt-iff-lt-mul, le-div-iff-mul-le}
 use native.Mathlib.Omega.{arith}
 use lib.Dec.{T, ltb, lit<, lit≤}
 use lib.Arith.{le→nltb}
 use lib.IntN.{ℤ, pos, negsuc}
 use lib.Pow.{pow-pos, pow-mono, shl-lt}
-use lib.Ieee.{Float, nan, inf, fin, binary64, up, down, round, neg, add, sub, sum, fits, isNan, toBits, ofBits}
+use lib.Ieee.{Float, nan, inf, fin, binary64, up, down, round, neg, add, sub, sum, fits, isNan, hid, ones, toBits, ofBits}
 use lib.Ieee.Back.{round-whole}
 use lib.Ieee.Bits.{cond-no}
 use lib.Ieee.Exact.{HasValue}
@@ -21,11 +21,11 @@ use lib.Ieee.Scale.{round-same, grid, overflow}
 use Rattle.floats.specs.Narrowing.{nearestWhole}
 use Rattle.floats.specs.OnBits.{absolute}
 use Rattle.floats.proofs.Laws.Closest.{closest-add-even, closest-one}
-use Rattle.floats.proofs.Laws.Place.{units-below, units-above, size-exact, bits-of-inf}
-use Rattle.floats.proofs.Laws.Units.{exponent, in-units, fits-digits, fits-signed}
-use Rattle.floats.proofs.Laws.Magnitude.{magnitude-of-bits, absolute-of-bits, clear-sign, set-sign}
+use Rattle.floats.proofs.Laws.Place.{units-below, units-above, size-exact, bits-of-inf, pattern, round-bits}
+use Rattle.floats.proofs.Laws.Units.{exponent, in-units, fits-digits, fits-signed, bits-of-sign, bits-under-top, round-number}
+use Rattle.floats.proofs.Laws.Magnitude.{magnitude-of-bits, absolute-of-bits, absolute-number}
 use Rattle.floats.proofs.Laws.Order.{bits-of-clear}
-use Rattle.floats.proofs.Laws.Rounding.{round-value, round-self, neg-round}
+use Rattle.floats.proofs.Laws.Rounding.{round-value, round-self}
 
 -- ---- a / c + 2 ^ 52, for a / c below 2 ^ 52, rounds to a whole number
 module _ (a c : ℕ) (C : 0 < c) (small : a < 2 ^ 52 * c) where
@@ -142,19 +142,34 @@ high-whole (fin s m e) t h =
     let u : T (fits binary64 (fin false m e)) = fits-signed binary64 s false m e t in
     high-finite s m e t (units-above 53 1074 (m * 2 ^ exponent 1074 e) (lit< tt) (subst (λ (b : ℕ). 1075 * 2 ^ 52 ≤ b) (magnitude-of-bits binary64 (fin s m e) t tt ∙ bits-of-clear binary64 m e u) h))
 
--- ---- the sign goes through
-pub whole-neg : (x : Float) → neg (nearestWhole x) ≡ nearestWhole (neg x)
-unfolding nearestWhole neg
-whole-neg nan = refl
-whole-neg (inf s) = refl
-whole-neg (fin s m e) = neg-round binary64 s (closest (m * up e) (down e)) 1
-
 -- ---- the two ways of the code, by the pattern n of x
 pub low-number : (x : Float) → toBits binary64 x % 2 ^ 63 < 1075 * 2 ^ 52 → T (not (isNan x))
 unfolding isNan toBits
 low-number nan h = absurd (not-le-of-lt h (lit≤ tt))
 low-number (inf s) h = tt
 low-number (fin s m e) h = tt
+
+-- a number has a number as its nearest whole value
+pub number-whole : (x : Float) → T (not (isNan x)) → T (not (isNan (nearestWhole x)))
+unfolding nearestWhole isNan
+number-whole nan n = absurd n
+number-whole (inf s) n = tt
+number-whole (fin s m e) n = round-number binary64 s (closest (m * up e) (down e)) 1
+
+-- the pattern of the nearest whole value is that of the size's, with the sign of x
+with-sign : (x : Float) → T (fits binary64 x) → T (not (isNan x)) → toBits binary64 x % 2 ^ 63 < 1075 * 2 ^ 52
+    → toBits binary64 (nearestWhole (absolute x)) + (toBits binary64 x - toBits binary64 x % 2 ^ 63) ≡ toBits binary64 (nearestWhole x)
+unfolding absolute nearestWhole isNan
+with-sign nan t n h = absurd n
+with-sign (inf s) t n h = absurd (high-inf (subst (λ (m : ℕ). m < 1075 * 2 ^ 52) (magnitude-of-bits binary64 (inf s) t n ∙ bits-of-inf binary64 false) h))
+with-sign (fin s m e) t n h =
+    let a = closest (m * up e) (down e) in
+    signed s (toBits binary64 (fin s m e)) (toBits binary64 (fin false m e)) (toBits binary64 (round binary64 false a 1)) (toBits binary64 (round binary64 s a 1)) (min (pattern binary64 a 1) (ones binary64 * hid binary64))
+    (bits-of-sign binary64 s m e t) (bits-under-top binary64 m e (fits-signed binary64 s false m e t)) (round-bits binary64 false a 1) (round-bits binary64 s a 1)
+  where
+    signed : (s : Bool) (n b v w r : ℕ) → n ≡ cond s 0x8000000000000000 0 + b → b < 0x8000000000000000 → v ≡ 0 + r → w ≡ cond s 0x8000000000000000 0 + r → v + (n - n % 0x8000000000000000) ≡ w
+    signed true n b v w r e1 h e2 e3 = omega (arith, e1, h, e2, e3)
+    signed false n b v w r e1 h e2 e3 = omega (arith, e1, h, e2, e3)
 
 -- |x| + 2 ^ 52 - 2 ^ 52
 abbrev pub byAdding : ℕ → Float
@@ -166,11 +181,12 @@ module _ (x : Float) (t : T (fits binary64 x)) (h : toBits binary64 x % 2 ^ 63 <
       ap (λ (y : Float). sub binary64 (add binary64 y (ofBits binary64 0x4330000000000000)) (ofBits binary64 0x4330000000000000)) (absolute-of-bits binary64 x t)
       ∙ low-whole x t (low-number x h) h
 
-  pub clear-whole : toBits binary64 x < 2 ^ 63 → byAdding (toBits binary64 x % 2 ^ 63) ≡ nearestWhole x
-  clear-whole k = by-adding ∙ ap nearestWhole (clear-sign binary64 x t (low-number x h) k)
+  -- it is a number, and its pattern with the sign of x is that of the nearest whole value
+  pub whole-number : T (not (isNan (byAdding (toBits binary64 x % 2 ^ 63))))
+  whole-number = subst (λ (y : Float). T (not (isNan y))) (sym by-adding) (number-whole (absolute x) (absolute-number x (low-number x h)))
 
-  pub signed-whole : 2 ^ 63 ≤ toBits binary64 x → neg (byAdding (toBits binary64 x % 2 ^ 63)) ≡ nearestWhole x
-  signed-whole k = ap neg by-adding ∙ whole-neg (absolute x) ∙ ap nearestWhole (set-sign binary64 x t (low-number x h) k)
+  pub whole-pattern : toBits binary64 (byAdding (toBits binary64 x % 2 ^ 63)) + (toBits binary64 x - toBits binary64 x % 2 ^ 63) ≡ toBits binary64 (nearestWhole x)
+  whole-pattern = ap (λ (y : Float). toBits binary64 y + (toBits binary64 x - toBits binary64 x % 2 ^ 63)) by-adding ∙ with-sign x t (low-number x h) h
 
 -- ---- an f64 holds the nearest whole number
 pub nearest-whole-exact : (s : Bool) (m : ℕ) (e : ℤ) → T (fits binary64 (fin s m e)) → HasValue (nearestWhole (fin s m e)) s (closest (m * up e) (down e)) 1

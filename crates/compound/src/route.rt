@@ -1,0 +1,57 @@
+// The choice of the route past the special operands and the whole exponents: by t = y * log2(1 + x).
+// A translation of the second half of `f_compoundf` in `compoundf.rs` of pxfm 0.1.30 (NOTICE).
+use crate::Answer;
+use crate::Exp2;
+use crate::fast::compoundf_log2p1_fast;
+use crate::fast::exp2_fast;
+use crate::slow::compoundf_accurate;
+use floats::narrowing::narrow;
+ghost use mathlib.Core.Path.{_≡_};
+ghost use mathlib.Core.Bool.{true, false};
+ghost use lib.Dec.{T};
+ghost use lib.IntN.{pos};
+ghost use lib.Ieee.{fin, lt};
+ghost use Rattle.compound.specs.Answer.{outcome};
+ghost use Rattle.compound.specs.Fast.{exp2Fast};
+ghost use Rattle.compound.specs.Route as spec;
+
+// The routes `fast` and `slow`: whichever the tests in `exp2_fast` say.
+fn decided(x: f64, y: f64, t: f64) -> Answer
+    requires { ⌜ spec.Tabled x y ⌝ ∗ ⌜ T (lt (fin true 75 (pos 1)) t) ⌝ ∗ ⌜ T (lt t (fin false 1 (pos 7))) ⌝ }
+    ensures { λ r. ⌜ outcome r ≡ spec.decided x y (exp2Fast t) ⌝ }
+{
+    let res = exp2_fast(t);
+    match res {
+        Exp2::Rounded(v) => Answer::Fast(narrow(v)),
+        Exp2::Failed => Answer::Slow(compoundf_accurate(x, y)),
+    }
+}
+
+// The answer from t, near y * log2(1 + x): the route `edge`, or what `decided` says.
+fn from_logarithm(x: f64, y: f64, t: f64) -> Answer
+    requires { ⌜ spec.Tabled x y ⌝ }
+    ensures { λ r. ⌜ outcome r ≡ spec.fromLogarithm x y t ⌝ }
+{
+    if t <= -150.0 {
+        return Answer::Edge(0.0);
+    }
+    if t < 128.0 {
+        // the source compares the shifted pattern with an unshifted constant
+        if f64::to_bits(t) % 0x8000_0000_0000_0000 * 2 <= 0x3e67_1547_6ba9_7f14 {
+            return Answer::Edge(1.0);
+        }
+        return decided(x, y, t);
+    }
+    Answer::Edge(f32::from_bits(0x7f80_0000))
+}
+
+// The answer past the routes `rule` and `whole`.
+pub fn table_path(x: f32, y: f32) -> Answer
+    requires { ⌜ spec.Tabled x y ⌝ }
+    ensures { λ r. ⌜ outcome r ≡ spec.tablePath x y ⌝ }
+{
+    let xd = x as f64;
+    let yd = y as f64;
+    let l = compoundf_log2p1_fast(xd);
+    from_logarithm(xd, yd, l * yd)
+}
