@@ -1,10 +1,8 @@
 -- The laws that the proofs of this crate and of those above it cite.
-pub mod Arms
 pub mod Tests
 pub mod Lifted
 pub mod Field
 pub mod Index
-pub mod Entries
 pub mod Scaled
 pub mod Rule
 pub mod Exponent

@@ -20,14 +20,14 @@ use Rattle.floats.proofs.Laws.Powers.{mul-power}
 use Rattle.floats.proofs.Laws.Sums.{add-mono, add-mono-left}
 use Rattle.floats.proofs.Laws.Units.{bits-under-top, fits-digits}
 use Rattle.double_double.specs.DoubleDouble.{fromExactAdd}
+use Rattle.tables.specs.Tables.{entry, log2p1Scale}
+use Rattle.tables.proofs.Entries.{scale-rule}
 use Rattle.compound.specs.Special.{one, minusOne}
-use Rattle.compound.specs.Tables.{entry, log2p1Scale}
 use Rattle.compound.specs.Scaling.{scaled, biased, exponentOf}
 use Rattle.compound.specs.Fast.{inverseIndex}
 use Rattle.compound.specs.Slow.{onePlus}
 use Rattle.compound.proofs.Field.{biased-near}
 use Rattle.compound.proofs.Index.{pattern-between, reduced-pattern, reduced-index}
-use Rattle.compound.proofs.Entries.{scale-rule}
 
 -- ---- the sign of 1 + x
 sum-clear : (s : Bool) (m : ℕ) (e : ℤ) → T (lt minusOne (fin s m e)) → T (clear (add binary64 one (fin s m e)))

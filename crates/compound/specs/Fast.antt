@@ -7,11 +7,11 @@ use lib.Ieee.{Float, binary64, toBits, ofInt, toSigned, lt, ne}
 use Rattle.floats.specs.Operations.{_⊕_, _⊖_, _⊗_, f64}
 use Rattle.floats.specs.Narrowing.{narrowed, nearestWhole}
 use Rattle.double_double.specs.DoubleDouble.{ddFmla}
+use Rattle.tables.specs.Tables.{entry, pairEntry, log2p1CompoundfInv, log2p1CompoundfLog2Inv, compoundfExp2T, compoundfExp2U, log2p1PolyP, expfPolyQ}
 use Rattle.compound.specs.declared.Exp2.{Exp2}
 use Rattle.compound.specs.declared.Exp2.the-variants.{Rounded, Failed}
 use Rattle.compound.specs.Special.{one, minusOne}
 use Rattle.compound.specs.Scaling.{scaled, exponentOf}
-use Rattle.compound.specs.Tables.{entry, pairEntry, log2p1CompoundfInv, log2p1CompoundfLog2Inv, compoundfExp2T, compoundfExp2U, log2p1PolyP, expfPolyQ}
 
 -- `log2p1_polyeval_1`: near log2(1 + z)
 unfoldable pub log2p1Polyeval1 : Float → Float

@@ -1,7 +1,6 @@
 -- The definitions that the contracts of `compound` cite, by the sections of document 01: the answer, special operands (with the classes that
--- code and proof share), whole exponents, the table path (tables, scaling, fast, slow), and the choice of the route.
+-- code and proof share), whole exponents, the table path (scaling, fast, slow; its tables are a crate below), and the choice of the route.
 pub mod Answer
-pub mod Tables
 pub mod Special
 pub mod Classes
 pub mod Whole

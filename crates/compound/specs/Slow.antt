@@ -12,10 +12,10 @@ use Rattle.floats.specs.Narrowing.{narrowed, nearestWhole}
 use Rattle.floats.specs.OnBits.{absolute}
 use Rattle.double_double.specs.declared.DoubleDouble.{DoubleDouble}
 use Rattle.double_double.specs.DoubleDouble.{fromExactAdd, quickMult, quickMultF64, ddFmla}
+use Rattle.tables.specs.Tables.{entry, pairEntry, log2p1CompoundfInv, log2p1CompoundfLog2Inv, compoundfExp2T, compoundfExp2U, log2p1Scale, log2p1Log2Poly, exp2PolyQ2}
 use Rattle.compound.specs.Special.{zero, one, minusOne}
 use Rattle.compound.specs.Scaling.{scaled, biased, exponentOf}
 use Rattle.compound.specs.Fast.{inverseIndex, powerIndex}
-use Rattle.compound.specs.Tables.{entry, pairEntry, log2p1CompoundfInv, log2p1CompoundfLog2Inv, compoundfExp2T, compoundfExp2U, log2p1Scale, log2p1Log2Poly, exp2PolyQ2}
 
 -- entry i of LOG2P1_LOG2_POLY, and of Q2
 abbrev pub p : ℕ → Float

@@ -16,7 +16,6 @@ pub mod route;
 pub mod scaling;
 pub mod slow;
 pub mod special;
-pub mod tables;
 pub mod whole;
 
 // The answer: one of five routes, each carrying its f32.

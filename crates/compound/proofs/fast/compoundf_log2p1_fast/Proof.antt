@@ -12,9 +12,9 @@ use denote.Floats.{passes}
 use Rattle.floats.specs.Operations.{_⊕_, f64}
 use Rattle.double_double.specs.declared.DoubleDouble.{DoubleDouble}
 use Rattle.double_double.specs.DoubleDouble.{ddFmla}
+use Rattle.tables.specs.Tables.{entry, pairEntry, log2p1CompoundfInv, log2p1CompoundfLog2Inv}
 use Rattle.compound.specs.Special.{one, minusOne}
 use Rattle.compound.specs.Scaling.{scaled, exponentOf}
-use Rattle.compound.specs.Tables.{entry, pairEntry, log2p1CompoundfInv, log2p1CompoundfLog2Inv}
 use Rattle.compound.specs.Fast.{inverseIndex, log2p1Polyeval1, compoundfLog2p1Fast}
 use Rattle.compound.proofs.Index.{reduced-number, reduced-index}
 use Rattle.compound.proofs.Scaled.{one-plus-clear, one-plus-number}

@@ -11,9 +11,9 @@ use lib.Ieee.Scale.{finite}
 use mir.Facts.{fits-le, fits-lit}
 use Rattle.floats.specs.Operations.{_⊕_, _⊗_, f64}
 use Rattle.double_double.specs.declared.DoubleDouble.{DoubleDouble}
+use Rattle.tables.specs.Tables.{entry, log2p1Scale}
 use Rattle.compound.specs.Special.{minusOne}
 use Rattle.compound.specs.Scaling.{biased, exponentOf}
-use Rattle.compound.specs.Tables.{entry, log2p1Scale}
 use Rattle.compound.specs.Fast.{inverseIndex}
 use Rattle.compound.specs.Slow.{onePlus, log2Reduced, compoundfLog2p1Accurate}
 use Rattle.compound.proofs.Field.{biased-near}

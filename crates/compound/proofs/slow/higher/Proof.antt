@@ -8,7 +8,7 @@ use native.Mathlib.Numerals.{add-one-le}
 use mir.Facts.{fits-le, fits-lit}
 use lib.Ieee.{Float}
 use Rattle.double_double.specs.DoubleDouble.{ddFmla}
-use Rattle.compound.specs.Tables.{entry, log2p1Log2Poly}
+use Rattle.tables.specs.Tables.{entry, log2p1Log2Poly}
 use Rattle.compound.specs.Slow.{droppingH, higher}
 use Rattle.compound.proofs.slow.higher.Statement.{statement}
 use Rattle.compound.proofs.slow.higher.Tie as tie

@@ -4,8 +4,8 @@ use borrow.Author.Needs.{needs}
 use mathlib.Core.Path.{_≡_, sym, _∙_, subst}
 use Prim.Native.Nat.{ℕ, _<_}
 use lib.Ieee.{binary32, ofBits, div, isNan, lt, le, eq}
+use Rattle.tables.proofs.Arms.{NoneBelow, only}
 use Rattle.compound.specs.Special.{isZero, fromMinusOneToZero, specialTable, firstThatFits, special}
-use Rattle.compound.proofs.Arms.{NoneBelow, only}
 use Rattle.compound.proofs.Rule.{typicalX, typicalY, answer, below-answer, zero-answer, x-classes, y-classes}
 use Rattle.compound.proofs.special.as_compoundf_special.Statement.{statement}
 use Rattle.compound.proofs.special.as_compoundf_special.Tie as tie

@@ -1,0 +1,15 @@
+-- `log2p1_compoundf_inv_bits` meets its contract: each arm is the entry of its number, by computing, and the last is never taken. Assumes nothing.
+use Rattle.tables.specs.Tables.{log2p1CompoundfInv}
+use Rattle.tables.proofs.Arms.{never}
+use Rattle.tables.proofs.log2p1_compoundf_inv_bits.Statement.{statement}
+use Rattle.tables.proofs.log2p1_compoundf_inv_bits.Tie as tie
+
+pub log2p1-compoundf-inv-bits-spec : {M : Type 1} → statement M
+unfolding log2p1CompoundfInv
+log2p1-compoundf-inv-bits-spec =
+    tie.close (tie.spec
+    (λ c. cc) (λ c. cc) (λ c. cc) (λ c. cc) (λ c. cc) (λ c. cc) (λ c. cc) (λ c. cc) (λ c. cc) (λ c. cc) (λ c. cc) (λ c. cc)
+    (λ c. cc) (λ c. cc) (λ c. cc) (λ c. cc) (λ c. cc) (λ c. cc) (λ c. cc) (λ c. cc) (λ c. cc) (λ c. cc) (λ c. cc) (λ c. cc)
+    (λ c. cc) (λ c. cc) (λ c. cc) (λ c. cc) (λ c. cc) (λ c. cc) (λ c. cc) (λ c. cc) (λ c. cc) (λ c. cc) (λ c. cc) (λ c. cc)
+    (λ c. cc) (λ c. cc) (λ c. cc) (λ c. cc) (λ c. cc) (λ c. cc) (λ c. cc) (λ c. cc) (λ c. cc) (λ c. cc)
+    (λ c. never 46 _ (c .before .pre) (c .match .rest)))

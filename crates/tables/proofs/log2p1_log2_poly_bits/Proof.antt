@@ -1,0 +1,13 @@
+-- `log2p1_log2_poly_bits` meets its contract: each arm is the entry of its number, by computing, and the last is never taken. Assumes nothing.
+use Rattle.tables.specs.Tables.{log2p1Log2Poly}
+use Rattle.tables.proofs.Arms.{never}
+use Rattle.tables.proofs.log2p1_log2_poly_bits.Statement.{statement}
+use Rattle.tables.proofs.log2p1_log2_poly_bits.Tie as tie
+
+pub log2p1-log2-poly-bits-spec : {M : Type 1} → statement M
+unfolding log2p1Log2Poly
+log2p1-log2-poly-bits-spec =
+    tie.close (tie.spec
+    (λ c. cc) (λ c. cc) (λ c. cc) (λ c. cc) (λ c. cc) (λ c. cc) (λ c. cc) (λ c. cc) (λ c. cc) (λ c. cc) (λ c. cc) (λ c. cc)
+    (λ c. cc) (λ c. cc) (λ c. cc) (λ c. cc) (λ c. cc) (λ c. cc)
+    (λ c. never 18 _ (c .before .pre) (c .match .rest)))
