@@ -287,6 +287,20 @@ pub y-nan : (n : ℕ) → 0x7f80_0000 < n % 2 ^ 31 → 0 ≡ classOfY (ofBits bi
 unfolding classOfY isNan
 y-nan n h = sym (ap classOfY (nan-of-above binary32 n h))
 
+-- the classes of single patterns: +0, +infinity, -0 and -1 for x
+pub x-single : (4 ≡ classOfX (ofBits binary32 0)) × (6 ≡ classOfX (ofBits binary32 0x7f80_0000)) × (4 ≡ classOfX (ofBits binary32 0x8000_0000)) × (2 ≡ classOfX (ofBits binary32 0xbf80_0000))
+unfolding classOfX ofBits isNan lt eq isZero
+x-single = (refl, refl, refl, refl)
+
+-- +0, +infinity, -0 and -infinity for y
+pub y-single : (3 ≡ classOfY (ofBits binary32 0)) × (5 ≡ classOfY (ofBits binary32 0x7f80_0000)) × (3 ≡ classOfY (ofBits binary32 0x8000_0000)) × (1 ≡ classOfY (ofBits binary32 0xff80_0000))
+unfolding classOfY ofBits isNan lt eq isZero
+y-single = (refl, refl, refl, refl)
+
+-- carried to a pattern that is one of them
+pub at-pattern : (class : Float → ℕ) {i n k : ℕ} → n ≡ k → i ≡ class (ofBits binary32 k) → i ≡ class (ofBits binary32 n)
+at-pattern class e d = d ∙ ap (λ (z : ℕ). class (ofBits binary32 z)) (sym e)
+
 -- ---- which pairs take the route `rule`, by the classes and by the patterns
 abbrev ruleX : Float → Bool
 ruleX x = le x minusOne || isSpecial x

@@ -16,7 +16,7 @@ use Rattle.floats.proofs.Laws.Nan.{number-of-below}
 use Rattle.floats.proofs.Laws.Place.{bits-of-inf}
 use Rattle.floats.proofs.Laws.Units.{bits-of-sign, bits-under-top, fits-signed}
 use Rattle.floats.proofs.Laws.Magnitude.{inf-under-top}
-use Rattle.floats.proofs.Laws.Order.{clear, pattern-mono, order-of-patterns}
+use Rattle.floats.proofs.Laws.Order.{clear, clear-both, pattern-mono, order-of-patterns}
 
 -- a pattern's place in the order of the values
 abbrev pub key : Format → ℕ → ℕ
@@ -102,18 +102,7 @@ at-most a b t = leb→le a b (subst T (ap (λ (z : Bool). ltb a b || z) (and-tru
 -- ---- values whose sign is clear
 lt-of-clear : (x y : Float) → T (clear x) → T (clear y) → lt x y ≡ not (le y x)
 unfolding lt le eq
-lt-of-clear nan y p q = absurd p
-lt-of-clear (inf true) y p q = absurd p
-lt-of-clear (inf false) nan p q = absurd q
-lt-of-clear (inf false) (inf true) p q = absurd q
-lt-of-clear (inf false) (inf false) p q = refl
-lt-of-clear (inf false) (fin t n d) p q = refl
-lt-of-clear (fin true m e) y p q = absurd p
-lt-of-clear (fin false m e) nan p q = absurd q
-lt-of-clear (fin false m e) (inf true) p q = absurd q
-lt-of-clear (fin false m e) (inf false) p q = refl
-lt-of-clear (fin false m e) (fin true n d) p q = absurd q
-lt-of-clear (fin false m e) (fin false n d) p q = go (m * up e * down d) (n * up d * down e)
+lt-of-clear = clear-both (λ (x y : Float). lt x y ≡ not (le y x)) refl (λ n d. refl) (λ m e. refl) (λ m e n d. go (m * up e * down d) (n * up d * down e))
   where
     go : (a b : ℕ) → ltb a b ≡ not (ltb b a || (eqb b a && true))
     go a b = sym (ap not (ap (λ (z : Bool). ltb b a || z) (and-true (eqb b a)) ∙ sym (leb-by-ltb b a)) ∙ not-leb a b)
@@ -129,34 +118,11 @@ lt-clear f x y p q t u =
 -- ---- the other signs
 lt-both : (x y : Float) → T (clear x) → T (clear y) → lt (neg x) (neg y) ≡ lt y x
 unfolding lt neg
-lt-both nan y p q = absurd p
-lt-both (inf true) y p q = absurd p
-lt-both (inf false) nan p q = absurd q
-lt-both (inf false) (inf true) p q = absurd q
-lt-both (inf false) (inf false) p q = refl
-lt-both (inf false) (fin true n d) p q = absurd q
-lt-both (inf false) (fin false n d) p q = refl
-lt-both (fin true m e) y p q = absurd p
-lt-both (fin false m e) nan p q = absurd q
-lt-both (fin false m e) (inf true) p q = absurd q
-lt-both (fin false m e) (inf false) p q = refl
-lt-both (fin false m e) (fin true n d) p q = absurd q
-lt-both (fin false m e) (fin false n d) p q = refl
+lt-both = clear-both (λ (x y : Float). lt (neg x) (neg y) ≡ lt y x) refl (λ n d. refl) (λ m e. refl) (λ m e n d. refl)
 
 lt-down : (x y : Float) → T (clear x) → T (clear y) → lt x (neg y) ≡ false
 unfolding lt neg
-lt-down nan y p q = absurd p
-lt-down (inf true) y p q = absurd p
-lt-down (inf false) nan p q = absurd q
-lt-down (inf false) (inf true) p q = absurd q
-lt-down (inf false) (inf false) p q = refl
-lt-down (inf false) (fin t n d) p q = refl
-lt-down (fin true m e) y p q = absurd p
-lt-down (fin false m e) nan p q = absurd q
-lt-down (fin false m e) (inf true) p q = absurd q
-lt-down (fin false m e) (inf false) p q = refl
-lt-down (fin false m e) (fin true n d) p q = absurd q
-lt-down (fin false m e) (fin false n d) p q = refl
+lt-down = clear-both (λ (x y : Float). lt x (neg y) ≡ false) refl (λ n d. refl) (λ m e. refl) (λ m e n d. refl)
 
 -- from a value that is not above zero up to one that is not below it: they differ unless both are zero
 either-pos : (m u d n v c : ℕ) → 0 < u → 0 < d → 0 < v → 0 < c → ltb 0 (m * u * c + n * v * d) ≡ (ltb (0 * 1 * d) (m * u * 1) || ltb (0 * 1 * c) (n * v * 1))
@@ -172,18 +138,10 @@ either-pos (suc m) u d n v c P Q R S =
 
 lt-up : (x y : Float) → T (clear x) → T (clear y) → lt (neg x) y ≡ (lt (fin false 0 (pos 0)) x || lt (fin false 0 (pos 0)) y)
 unfolding lt neg
-lt-up nan y p q = absurd p
-lt-up (inf true) y p q = absurd p
-lt-up (inf false) nan p q = absurd q
-lt-up (inf false) (inf true) p q = absurd q
-lt-up (inf false) (inf false) p q = refl
-lt-up (inf false) (fin t n d) p q = refl
-lt-up (fin true m e) y p q = absurd p
-lt-up (fin false m e) nan p q = absurd q
-lt-up (fin false m e) (inf true) p q = absurd q
-lt-up (fin false m e) (inf false) p q = sym (or-true (lt (fin false 0 (pos 0)) (fin false m e)))
-lt-up (fin false m e) (fin true n d) p q = absurd q
-lt-up (fin false m e) (fin false n d) p q = either-pos m (up e) (down e) n (up d) (down d) (up-pos e) (down-pos e) (up-pos d) (down-pos d)
+lt-up =
+    clear-both (λ (x y : Float). lt (neg x) y ≡ (lt (fin false 0 (pos 0)) x || lt (fin false 0 (pos 0)) y)) refl (λ n d. refl)
+    (λ m e. sym (or-true (lt (fin false 0 (pos 0)) (fin false m e))))
+    (λ m e n d. either-pos m (up e) (down e) n (up d) (down d) (up-pos e) (down-pos e) (up-pos d) (down-pos d))
 
 -- ---- a value that is no NaN: its sign and its size
 record Signed (f : Format) (x : Float) : Type 0 where

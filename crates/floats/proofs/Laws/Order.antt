@@ -39,6 +39,23 @@ clear nan = false
 clear (inf s) = not s
 clear (fin s m e) = not s
 
+-- what holds of any two of the infinity and the finite values whose sign is clear holds of any two values whose sign is clear
+pub clear-both : (P : Float → Float → Type 0) → P (inf false) (inf false) → ((n : ℕ) (d : ℤ) → P (inf false) (fin false n d)) → ((m : ℕ) (e : ℤ) → P (fin false m e) (inf false))
+    → ((m : ℕ) (e : ℤ) (n : ℕ) (d : ℤ) → P (fin false m e) (fin false n d)) → (x y : Float) → T (clear x) → T (clear y) → P x y
+clear-both P both over under finite nan y p q = absurd p
+clear-both P both over under finite (inf true) y p q = absurd p
+clear-both P both over under finite (fin true m e) y p q = absurd p
+clear-both P both over under finite (inf false) nan p q = absurd q
+clear-both P both over under finite (inf false) (inf true) p q = absurd q
+clear-both P both over under finite (inf false) (inf false) p q = both
+clear-both P both over under finite (inf false) (fin true n d) p q = absurd q
+clear-both P both over under finite (inf false) (fin false n d) p q = over n d
+clear-both P both over under finite (fin false m e) nan p q = absurd q
+clear-both P both over under finite (fin false m e) (inf true) p q = absurd q
+clear-both P both over under finite (fin false m e) (inf false) p q = under m e
+clear-both P both over under finite (fin false m e) (fin true n d) p q = absurd q
+clear-both P both over under finite (fin false m e) (fin false n d) p q = finite m e n d
+
 -- in units the order is that of the numbers of units
 units-le : (f : Format) (m : ℕ) (e : ℤ) (n : ℕ) (d : ℤ) → T (fits f (fin false m e)) → T (fits f (fin false n d)) → m * up e * down d ≤ n * up d * down e
     → m * 2 ^ exponent (low f) e ≤ n * 2 ^ exponent (low f) d
@@ -56,24 +73,18 @@ bits-of-clear f m e t = bits-of-value f false m e t ∙ zero-add (place (prec f)
 
 pub pattern-mono : (f : Format) (x y : Float) → T (clear x) → T (clear y) → T (fits f x) → T (fits f y) → T (le x y) → toBits f x ≤ toBits f y
 unfolding le
-pattern-mono f nan y p q t u h = absurd p
-pattern-mono f (inf true) y p q t u h = absurd p
-pattern-mono f (inf false) nan p q t u h = absurd q
-pattern-mono f (inf false) (inf true) p q t u h = absurd q
-pattern-mono f (inf false) (inf false) p q t u h = le-of-eq refl
-pattern-mono f (inf false) (fin s n d) p q t u h = absurd h
-pattern-mono f (fin true m e) y p q t u h = absurd p
-pattern-mono f (fin false m e) nan p q t u h = absurd q
-pattern-mono f (fin false m e) (inf true) p q t u h = absurd q
-pattern-mono f (fin false m e) (inf false) p q t u h =
+pattern-mono f =
+    clear-both (λ (x y : Float). T (fits f x) → T (fits f y) → T (le x y) → toBits f x ≤ toBits f y)
+    (λ t u h. le-of-eq refl)
+    (λ n d t u h. absurd h)
+    (λ m e t u h.
     le-trans (le-of-eq (bits-of-clear f m e t))
     (le-trans (place-mono (prec f) (m * 2 ^ exponent (low f) e) (overflow f) (two-le-pos (prec f) (two f)) (le-of-lt (fits-under f false m e t)))
-    (le-of-eq (place-of-overflow f ∙ sym (bits-of-inf f false ∙ zero-add (ones f * hid f)))))
-pattern-mono f (fin false m e) (fin true n d) p q t u h = absurd q
-pattern-mono f (fin false m e) (fin false n d) p q t u h =
+    (le-of-eq (place-of-overflow f ∙ sym (bits-of-inf f false ∙ zero-add (ones f * hid f))))))
+    (λ m e n d t u h.
     le-trans (le-of-eq (bits-of-clear f m e t))
     (le-trans (place-mono (prec f) (m * 2 ^ exponent (low f) e) (n * 2 ^ exponent (low f) d) (two-le-pos (prec f) (two f)) (units-le f m e n d t u (le-says (m * up e * down d) (n * up d * down e) h)))
-    (le-of-eq (sym (bits-of-clear f n d u))))
+    (le-of-eq (sym (bits-of-clear f n d u)))))
 
 -- one of two is at most the other
 either-le : (a b : ℕ) → (a ≤ b) ⊎ (b ≤ a)
@@ -85,23 +96,11 @@ either-le a b = go (leb a b) (leb→le a b) (nleb→lt a b)
 
 le-either : (x y : Float) → T (clear x) → T (clear y) → T (le x y) ⊎ T (le y x)
 unfolding le
-le-either nan y p q = absurd p
-le-either (inf true) y p q = absurd p
-le-either (inf false) nan p q = absurd q
-le-either (inf false) (inf true) p q = absurd q
-le-either (inf false) (inf false) p q = inl tt
-le-either (inf false) (fin true n d) p q = absurd q
-le-either (inf false) (fin false n d) p q = inr tt
-le-either (fin true m e) y p q = absurd p
-le-either (fin false m e) nan p q = absurd q
-le-either (fin false m e) (inf true) p q = absurd q
-le-either (fin false m e) (inf false) p q = inl tt
-le-either (fin false m e) (fin true n d) p q = absurd q
-le-either (fin false m e) (fin false n d) p q = go (either-le (m * up e * down d) (n * up d * down e))
+le-either = clear-both (λ (x y : Float). T (le x y) ⊎ T (le y x)) (inl tt) (λ n d. inr tt) (λ m e. inl tt) (λ m e n d. go m e n d (either-le (m * up e * down d) (n * up d * down e)))
   where
-    go : (m * up e * down d ≤ n * up d * down e) ⊎ (n * up d * down e ≤ m * up e * down d) → T (le (fin false m e) (fin false n d)) ⊎ T (le (fin false n d) (fin false m e))
-    go (inl h) = inl (le-of-values (fin false m e) (fin false n d) (m * up e) (down e) (n * up d) (down d) (down-pos e) (down-pos d) (refl, refl) (refl, refl) h)
-    go (inr h) = inr (le-of-values (fin false n d) (fin false m e) (n * up d) (down d) (m * up e) (down e) (down-pos d) (down-pos e) (refl, refl) (refl, refl) h)
+    go : (m : ℕ) (e : ℤ) (n : ℕ) (d : ℤ) → (m * up e * down d ≤ n * up d * down e) ⊎ (n * up d * down e ≤ m * up e * down d) → T (le (fin false m e) (fin false n d)) ⊎ T (le (fin false n d) (fin false m e))
+    go m e n d (inl h) = inl (le-of-values (fin false m e) (fin false n d) (m * up e) (down e) (n * up d) (down d) (down-pos e) (down-pos d) (refl, refl) (refl, refl) h)
+    go m e n d (inr h) = inr (le-of-values (fin false n d) (fin false m e) (n * up d) (down d) (m * up e) (down e) (down-pos d) (down-pos e) (refl, refl) (refl, refl) h)
 
 pub order-of-patterns : (f : Format) (x y : Float) → T (clear x) → T (clear y) → T (fits f x) → T (fits f y) → toBits f x ≤ toBits f y → T (le x y)
 order-of-patterns f x y p q t u h = go (le-either x y p q)
@@ -128,23 +127,13 @@ flip-eq a b s t = subst (λ (x : ℕ). T (eqb x a && s)) (eqb→eq a b (and-l (e
 -- turned round by the sign
 le-neg : (x y : Float) → T (clear x) → T (clear y) → T (le x y) → T (le (neg y) (neg x))
 unfolding le neg
-le-neg nan y p q h = absurd p
-le-neg (inf true) y p q h = absurd p
-le-neg (inf false) nan p q h = absurd q
-le-neg (inf false) (inf true) p q h = absurd q
-le-neg (inf false) (inf false) p q h = tt
-le-neg (inf false) (fin s n d) p q h = absurd h
-le-neg (fin true m e) y p q h = absurd p
-le-neg (fin false m e) nan p q h = absurd q
-le-neg (fin false m e) (inf true) p q h = absurd q
-le-neg (fin false m e) (inf false) p q h = tt
-le-neg (fin false m e) (fin true n d) p q h = absurd q
-le-neg (fin false m e) (fin false n d) p q h = go (or-split (ltb (m * up e * down d) (n * up d * down e)) (eqb (m * up e * down d) (n * up d * down e) && true) h)
+le-neg =
+    clear-both (λ (x y : Float). T (le x y) → T (le (neg y) (neg x))) (λ h. tt) (λ n d h. absurd h) (λ m e h. tt)
+    (λ m e n d h. go (m * up e * down d) (n * up d * down e) (or-split (ltb (m * up e * down d) (n * up d * down e)) (eqb (m * up e * down d) (n * up d * down e) && true) h))
   where
-    go : T (ltb (m * up e * down d) (n * up d * down e)) ⊎ T (eqb (m * up e * down d) (n * up d * down e) && true)
-        → T (ltb (m * up e * down d) (n * up d * down e) || (eqb (n * up d * down e) (m * up e * down d) && true))
-    go (inl u) = or-l (ltb (m * up e * down d) (n * up d * down e)) (eqb (n * up d * down e) (m * up e * down d) && true) u
-    go (inr u) = or-r (ltb (m * up e * down d) (n * up d * down e)) (eqb (n * up d * down e) (m * up e * down d) && true) (flip-eq (m * up e * down d) (n * up d * down e) true u)
+    go : (a b : ℕ) → T (ltb a b) ⊎ T (eqb a b && true) → T (ltb a b || (eqb b a && true))
+    go a b (inl u) = or-l (ltb a b) (eqb b a && true) u
+    go a b (inr u) = or-r (ltb a b) (eqb b a && true) (flip-eq a b true u)
 
 -- a value that is not above zero is at most one that is not below it
 under-zero : (a b : ℕ) → T (ltb 0 (a + b) || (eqb a b && (false || eqb a 0)))
@@ -154,18 +143,7 @@ under-zero (suc a) b = or-l (ltb 0 (suc a + b)) (eqb (suc a) b && (false || eqb 
 
 le-across : (x y : Float) → T (clear x) → T (clear y) → T (le (neg x) y)
 unfolding le neg
-le-across nan y p q = absurd p
-le-across (inf true) y p q = absurd p
-le-across (inf false) nan p q = absurd q
-le-across (inf false) (inf true) p q = absurd q
-le-across (inf false) (inf false) p q = tt
-le-across (inf false) (fin s n d) p q = tt
-le-across (fin true m e) y p q = absurd p
-le-across (fin false m e) nan p q = absurd q
-le-across (fin false m e) (inf true) p q = absurd q
-le-across (fin false m e) (inf false) p q = tt
-le-across (fin false m e) (fin true n d) p q = absurd q
-le-across (fin false m e) (fin false n d) p q = under-zero (m * up e * down d) (n * up d * down e)
+le-across = clear-both (λ (x y : Float). T (le (neg x) y)) tt (λ n d. tt) (λ m e. tt) (λ m e n d. under-zero (m * up e * down d) (n * up d * down e))
 
 -- ---- rounding with its sign
 clear-of-sign : (x : Float) → HasSign false x → T (clear x)
