@@ -1,9 +1,18 @@
--- The last arm of a `match` over the numbers from 0 up: what it tells of the index. Assumes nothing.
-use mathlib.Core.Path.{_≡_}
-use mathlib.Core.List.{[], _∷_}
+-- The arms of a `match` over the numbers from 0 up: what each tells of the index, and so of the entry of a table. Assumes nothing.
+use mathlib.Core.Path.{_≡_, sym, ap}
+use mathlib.Core.List.{List, [], _∷_}
 use Prim.Native.Nat.{ℕ, zero, suc, _≤_, _<_}
 use native.Mathlib.Omega.{arith}
 use types.Run.{OneOf}
+use lib.ListN.{getD}
+
+-- where the index i is k, entry k of a table is entry i
+pub at : (table : List ℕ) {i k : ℕ} → i ≡ k → getD table k 0 ≡ getD table i 0
+at table e = ap (λ (n : ℕ). getD table n 0) (sym e)
+
+-- and of a table of pairs
+pub pair-at : (table : List (ℕ × ℕ)) {i k : ℕ} → i ≡ k → getD table k (0, 0) ≡ getD table i (0, 0)
+pair-at table e = ap (λ (n : ℕ). getD table n (0, 0)) (sym e)
 
 -- i is none of the numbers below k, in the words of the fact that the last arm has
 abbrev pub NoneBelow : ℕ → ℕ → Type 0
