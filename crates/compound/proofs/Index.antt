@@ -20,7 +20,7 @@ use Rattle.floats.proofs.Laws.Order.{clear, pattern-mono, values-of-patterns}
 use Rattle.floats.proofs.Laws.Sums.{add-mono, add-mono-left, whole-distance, SizeAtMost, size-finite, whole-at-most}
 use Rattle.floats.proofs.Laws.Cast.{part-at-most, signed-cast, whole-twice, whole-fits}
 use Rattle.compound.specs.Scaling.{scaled, biased, exponentOf, Within}
-use Rattle.compound.specs.Fast.{inverseIndex, powerIndex}
+use Rattle.compound.specs.Fast.{inverseIndex, HasInverse, powerIndex, HasPower}
 use Rattle.compound.specs.Slow.{clampedIndex, clampedK}
 use Rattle.compound.proofs.Lifted.{within-read}
 
@@ -61,7 +61,7 @@ inverse-place v g h = (omega arith, omega arith)
 
 -- 45/64 <= t <= 1455/1024
 pub inverse-index : (t : Float) → T (fits binary64 t) → T (le (ofBits binary64 0x3fe6800000000000) t) → T (le t (ofBits binary64 0x3ff6bc0000000000))
-    → (0x2002d ≤ toBits binary64 (add binary64 t (ofBits binary64 0x4000000000000000)) / 2 ^ 45) × (inverseIndex t < 46)
+    → HasInverse t
 unfolding inverseIndex ofBits add fits toBits
 inverse-index t f g h =
     let lo = ofBits binary64 0x3fe6800000000000 in
@@ -77,7 +77,7 @@ power-place v g h = (omega arith, omega arith)
 
 -- -1/2 <= r <= 1/2
 pub power-index : (r : Float) → T (fits binary64 r) → T (le (fin true 1 (negsuc 0)) r) → T (le r (fin false 1 (negsuc 0)))
-    → (0x10010 ≤ toBits binary64 (add binary64 (ofBits binary64 0x4008200000000000) r) / 2 ^ 46) × (powerIndex r < 33)
+    → HasPower r
 unfolding powerIndex ofBits add fits toBits
 power-index r f g h =
     let lo = fin true 1 (negsuc 0) in
@@ -148,10 +148,8 @@ reduced-number v small = number-of-below binary64 (scaled v (negℤ (exponentOf 
     within : (n : ℕ) → n ≤ 0x3ff6a09e667f3bcc → n % 2 ^ 63 ≤ 0x7ff0000000000000
     within n h = omega arith
 
--- and its value has an index inside the table
-pub reduced-index : (v : ℕ) → v < 2 ^ 63
-    → (0x2002d ≤ toBits binary64 (add binary64 (ofBits binary64 (scaled v (negℤ (exponentOf v)))) (ofBits binary64 0x4000000000000000)) / 2 ^ 45)
-    × (inverseIndex (ofBits binary64 (scaled v (negℤ (exponentOf v)))) < 46)
+-- and its value has an inverse
+pub reduced-index : (v : ℕ) → v < 2 ^ 63 → HasInverse (ofBits binary64 (scaled v (negℤ (exponentOf v))))
 reduced-index v small =
     let n = scaled v (negℤ (exponentOf v)) in
     let r = reduced-pattern v small in
@@ -203,9 +201,9 @@ exponent-small (fin false m e) g h = size-under (m * up e) 128 (down e) (lit≤ 
 pub whole-k : (t : Float) → T (fits binary64 t) → T (lt (fin true 75 (pos 1)) t) → T (lt t (fin false 1 (pos 7))) → Castable (nearestWhole t)
 whole-k t f g h = castable (nearestWhole t) (whole-fits t) (whole-twice t f) (whole-at-most t f 1000 (exponent-small t g h))
 
--- and what is left of t over it has an index inside the table of powers
+-- and what is left of t over it has a power
 pub distance-index : (t : Float) → T (fits binary64 t) → T (lt (fin true 75 (pos 1)) t) → T (lt t (fin false 1 (pos 7)))
-    → (0x10010 ≤ toBits binary64 (add binary64 (ofBits binary64 0x4008200000000000) (sub binary64 t (nearestWhole t))) / 2 ^ 46) × (powerIndex (sub binary64 t (nearestWhole t)) < 33)
+    → HasPower (sub binary64 t (nearestWhole t))
 distance-index t f g h =
     let r = sub binary64 t (nearestWhole t) in
     let w = whole-distance t f (size-finite 1000 t (exponent-small t g h)) in

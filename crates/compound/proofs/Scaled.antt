@@ -24,7 +24,7 @@ use Rattle.tables.specs.Tables.{entry, log2p1Scale}
 use Rattle.tables.proofs.Entries.{scale-rule}
 use Rattle.compound.specs.Special.{one, minusOne}
 use Rattle.compound.specs.Scaling.{scaled, biased, exponentOf}
-use Rattle.compound.specs.Fast.{inverseIndex}
+use Rattle.compound.specs.Fast.{HasInverse}
 use Rattle.compound.specs.Slow.{onePlus}
 use Rattle.compound.proofs.Field.{biased-near}
 use Rattle.compound.proofs.Index.{pattern-between, reduced-pattern, reduced-index}
@@ -204,11 +204,11 @@ times-scale v lo hi =
           ∙ ap (ofBits binary64) (f .reduced ∙ sym (reduced-pattern v (lt-trans hi (lit< tt)) .0)),
     )
 
--- so the index of the inverse is inside its table
+-- so the entry is inside its table, and what is left has an inverse
 pub accurate-index : (x : Float) → T (fits binary32 x) → T (finite x) → T (lt minusOne x)
     → let v = toBits binary64 (onePlus x .hi) in
     let h = mul binary64 (onePlus x .hi) (entry log2p1Scale (biased v + 29 - 1023)) in
-    (biased v + 29 - 1023 < 158) × (0x2002d ≤ toBits binary64 (add binary64 h (ofBits binary64 0x4000000000000000)) / 2 ^ 45) × (inverseIndex h < 46)
+    (biased v + 29 - 1023 < 158) × HasInverse h
 accurate-index x f p h =
     let v = toBits binary64 (onePlus x .hi) in
     let b = one-plus-bits x f p h in
@@ -216,5 +216,4 @@ accurate-index x f p h =
     let fit : T (fits binary64 (onePlus x .hi)) = high-part (λ (y : Float). T (fits binary64 y)) x (add-fits binary64 one x) (unfold fits in tt) (add-fits binary64 x one) in
     let e : ofBits binary64 (scaled v (negℤ (exponentOf v))) ≡ mul binary64 (onePlus x .hi) (entry log2p1Scale (biased v + 29 - 1023)) =
     sym (s .1) ∙ ap (λ (y : Float). mul binary64 y (entry log2p1Scale (biased v + 29 - 1023))) (ofBits-toBits binary64 (onePlus x .hi) fit) in
-    let r = subst (λ (y : Float). (0x2002d ≤ toBits binary64 (add binary64 y (ofBits binary64 0x4000000000000000)) / 2 ^ 45) × (inverseIndex y < 46)) e (reduced-index v (lt-trans (b .1) (lit< tt))) in
-    (s .0, r .0, r .1)
+    (s .0, subst HasInverse e (reduced-index v (lt-trans (b .1) (lit< tt))))

@@ -1,6 +1,6 @@
 -- Document 01, "Table path": `compoundf_log2p1_fast` and `exp2_fast`. "Operations and their order are those of" the source, line by line and
 -- under the names that the lines have there.
-use Prim.Native.Nat.{ℕ, _-_, _/_, _^_}
+use Prim.Native.Nat.{ℕ, _-_, _/_, _^_, _≤_, _<_}
 use mathlib.Core.Bool.{cond}
 use lib.IntN.{negℤ}
 use lib.Ieee.{Float, binary64, toBits, ofInt, toSigned, lt, ne}
@@ -35,10 +35,18 @@ compoundfExpfPoly z =
     let c2 = ddFmla c3 z (entry expfPolyQ 2) in
     ddFmla c2 z2 c0
 
--- The index i of the inverse of t: the place of t + 2 among the 64ths from 2 + 45/64 up, below which it would be 0. For the t of every pair it is
--- not below, and i is below 46 (`reduced-index` in proofs/Index.antt, and `accurate-index` in proofs/Scaled.antt for the slow path).
+-- the place of t + 2 among the 64ths, for a sum from 2 to 4
+abbrev pub inversePlace : Float → ℕ
+inversePlace t = toBits binary64 (t ⊕ f64 0x4000000000000000) / 2 ^ 45
+
+-- the index i of the inverse of t: its place, counted from 2 + 45/64; below that it would be 0
 unfoldable pub inverseIndex : Float → ℕ
-inverseIndex t = toBits binary64 (t ⊕ f64 0x4000000000000000) / 2 ^ 45 - 0x2002d
+inverseIndex t = inversePlace t - 0x2002d
+
+-- t has an inverse in the table. The t of every pair has (`reduced-index` in proofs/Index.antt, and `accurate-index` in proofs/Scaled.antt for the
+-- slow path).
+abbrev pub HasInverse : Float → Type 0
+HasInverse t = (0x2002d ≤ inversePlace t) × (inverseIndex t < 46)
 
 -- `compoundf_log2p1_fast`: near log2(1 + x)
 unfoldable pub compoundfLog2p1Fast : Float → Float
@@ -53,10 +61,17 @@ compoundfLog2p1Fast x =
     let p = log2p1Polyeval1 z in
     ofInt binary64 e ⊕ (pairEntry log2p1CompoundfLog2Inv i .hi ⊕ p)
 
--- The index i of the nearest 32nd to r, counted from -16: the place of r + 3.015625 among the 32nds from 2 + 16/32 up, below which it is 0. For
--- |r| <= 1/2 it is not below, and i is below 33 (`power-index` in proofs/Index.antt).
+-- the place of 3.015625 + r among the 32nds, for a sum from 2 to 4
+abbrev pub powerPlace : Float → ℕ
+powerPlace r = toBits binary64 (f64 0x4008200000000000 ⊕ r) / 2 ^ 46
+
+-- the index i of the nearest 32nd to r, counted from -16: the place, counted from 2 + 16/32; below that it is 0
 unfoldable pub powerIndex : Float → ℕ
-powerIndex r = toBits binary64 (f64 0x4008200000000000 ⊕ r) / 2 ^ 46 - 0x10010
+powerIndex r = powerPlace r - 0x10010
+
+-- r has a power in the table, as each with |r| <= 1/2 has (`power-index` in proofs/Index.antt)
+abbrev pub HasPower : Float → Type 0
+HasPower r = (0x10010 ≤ powerPlace r) × (powerIndex r < 33)
 
 -- The pattern of 2^r in `exp2_fast`, before it is scaled by 2^k: the i-th power times the polynomial at what is left of r.
 unfoldable pub exp2Reduced : Float → ℕ

@@ -17,17 +17,16 @@ use tables::log2p1_compoundf_log2_inv;
 use tables::poly_p;
 use tables::poly_q;
 ghost use mathlib.Core.Path.{_≡_};
-ghost use Prim.Native.Nat.{_<_, _≤_, _/_, _^_};
 ghost use lib.Dec.{T};
 ghost use lib.IntN.{pos};
-ghost use lib.Ieee.{fin, binary64, toBits, lt};
+ghost use lib.Ieee.{fin, lt};
 ghost use mathlib.Core.Bool.{true, false};
-ghost use Rattle.floats.specs.Operations.{_⊕_, f64};
+ghost use Rattle.floats.specs.Operations.{f64};
 ghost use Rattle.compound.specs.Special.{minusOne};
 ghost use Rattle.compound.specs.Fast as spec;
 
 // Near log2(1 + z) for |z| <= 1/64.
-pub fn log2p1_polyeval_1(z: f64) -> f64
+fn log2p1_polyeval_1(z: f64) -> f64
     ensures { λ r. ⌜ r ≡ spec.log2p1Polyeval1 z ⌝ }
 {
     let z2 = z * z;
@@ -42,7 +41,7 @@ pub fn log2p1_polyeval_1(z: f64) -> f64
 }
 
 // Near 2^z for |z| <= 2^-6.
-pub fn compoundf_expf_poly(z: f64) -> f64
+fn compoundf_expf_poly(z: f64) -> f64
     ensures { λ r. ⌜ r ≡ spec.compoundfExpfPoly z ⌝ }
 {
     let z2 = z * z;
@@ -53,8 +52,8 @@ pub fn compoundf_expf_poly(z: f64) -> f64
 }
 
 // The index of the inverse of t.
-pub fn inverse_index(t: f64) -> u64
-    requires { ⌜ 0x2002d ≤ toBits binary64 (t ⊕ f64 0x4000_0000_0000_0000) / 2 ^ 45 ⌝ ∗ ⌜ spec.inverseIndex t < 46 ⌝ }
+pub(crate) fn inverse_index(t: f64) -> u64
+    requires { ⌜ spec.HasInverse t ⌝ }
     ensures { λ r. ⌜ r ≡ spec.inverseIndex t ⌝ }
 {
     // add 2, so that the sum always lies from 2 to 4
@@ -63,7 +62,7 @@ pub fn inverse_index(t: f64) -> u64
 
 // Near log2(1 + x) for the f64 of an f32 above -1. The source says that the relative error is below
 // 2^-47.997; nothing here rests on that.
-pub fn compoundf_log2p1_fast(x: f64) -> f64
+pub(crate) fn compoundf_log2p1_fast(x: f64) -> f64
     requires { ⌜ T (lt minusOne x) ⌝ }
     ensures { λ r. ⌜ r ≡ spec.compoundfLog2p1Fast x ⌝ }
 {
@@ -85,8 +84,8 @@ pub fn compoundf_log2p1_fast(x: f64) -> f64
 }
 
 // The index of the nearest 32nd to r.
-pub fn power_index(r: f64) -> u64
-    requires { ⌜ 0x10010 ≤ toBits binary64 (f64 0x4008_2000_0000_0000 ⊕ r) / 2 ^ 46 ⌝ ∗ ⌜ spec.powerIndex r < 33 ⌝ }
+fn power_index(r: f64) -> u64
+    requires { ⌜ spec.HasPower r ⌝ }
     ensures { λ i. ⌜ i ≡ spec.powerIndex r ⌝ }
 {
     // 3 + 2^-6, so that the index is rounded to nearest
@@ -95,7 +94,7 @@ pub fn power_index(r: f64) -> u64
 
 // The pattern of a number near 2^r.
 fn exp2_reduced(r: f64) -> u64
-    requires { ⌜ 0x10010 ≤ toBits binary64 (f64 0x4008_2000_0000_0000 ⊕ r) / 2 ^ 46 ⌝ ∗ ⌜ spec.powerIndex r < 33 ⌝ }
+    requires { ⌜ spec.HasPower r ⌝ }
     ensures { λ v. ⌜ v ≡ spec.exp2Reduced r ⌝ }
 {
     let i = power_index(r);
@@ -145,7 +144,7 @@ fn pattern_test(w: u64, e: u64) -> Exp2
 }
 
 // Near 2^t, where the rounding test passes.
-pub fn exp2_fast(t: f64) -> Exp2
+pub(crate) fn exp2_fast(t: f64) -> Exp2
     requires { ⌜ T (lt (fin true 75 (pos 1)) t) ⌝ ∗ ⌜ T (lt t (fin false 1 (pos 7))) ⌝ }
     ensures { λ r. ⌜ r ≡ spec.exp2Fast t ⌝ }
 {

@@ -11,12 +11,12 @@ ghost use lib.Ieee.{binary32, ofBits};
 ghost use Rattle.compound.specs.Answer.{outcome};
 ghost use Rattle.compound.specs.Route as spec;
 
-pub mod fast;
-pub mod route;
-pub mod scaling;
-pub mod slow;
-pub mod special;
-pub mod whole;
+mod fast;
+mod route;
+mod scaling;
+mod slow;
+mod special;
+mod whole;
 
 // The answer: one of five routes, each carrying its f32.
 pub enum Answer {

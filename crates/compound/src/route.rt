@@ -46,7 +46,7 @@ fn from_logarithm(x: f64, y: f64, t: f64) -> Answer
 }
 
 // The answer past the routes `rule` and `whole`.
-pub fn table_path(x: f32, y: f32) -> Answer
+pub(crate) fn table_path(x: f32, y: f32) -> Answer
     requires { ⌜ spec.Tabled x y ⌝ }
     ensures { λ r. ⌜ outcome r ≡ spec.tablePath x y ⌝ }
 {

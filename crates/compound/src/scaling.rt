@@ -6,7 +6,7 @@ ghost use lib.Ieee.{binary64, ofInt};
 ghost use Rattle.compound.specs.Scaling as spec;
 
 // v + k * 2^52, wrapping: the pattern v with its number times 2^k, where that is a normal number.
-pub fn scaled(v: u64, k: i64) -> u64
+pub(crate) fn scaled(v: u64, k: i64) -> u64
     requires { ⌜ spec.Within 1000 k ⌝ }
     ensures { λ r. ⌜ r ≡ spec.scaled v k ⌝ }
 {
@@ -16,7 +16,7 @@ pub fn scaled(v: u64, k: i64) -> u64
 }
 
 // The exponent's field of v, one more where the digits are those of sqrt(2) or above.
-pub fn biased(v: u64) -> u64
+pub(crate) fn biased(v: u64) -> u64
     ensures { λ r. ⌜ r ≡ spec.biased v ⌝ }
 {
     let e = v / 0x10_0000_0000_0000;
@@ -27,7 +27,7 @@ pub fn biased(v: u64) -> u64
 }
 
 // The source's e, as an f64, for the pattern v.
-pub fn exponent(v: u64) -> f64
+pub(crate) fn exponent(v: u64) -> f64
     requires { ⌜ v < 2 ^ 63 ⌝ }
     ensures { λ r. ⌜ r ≡ ofInt binary64 (spec.exponentOf v) ⌝ }
 {
@@ -35,7 +35,7 @@ pub fn exponent(v: u64) -> f64
 }
 
 // The pattern v without its e: the number between 1/sqrt(2) and sqrt(2) that has the same digits.
-pub fn reduced(v: u64) -> u64
+pub(crate) fn reduced(v: u64) -> u64
     requires { ⌜ v < 2 ^ 63 ⌝ }
     ensures { λ r. ⌜ r ≡ spec.scaled v (negℤ (spec.exponentOf v)) ⌝ }
 {

@@ -19,15 +19,14 @@ use tables::log2p1_log2_poly;
 use tables::log2p1_scale;
 use tables::poly_q2;
 ghost use mathlib.Core.Path.{_≡_};
-ghost use Prim.Native.Nat.{_<_, _≤_, _/_, _^_};
+ghost use Prim.Native.Nat.{_<_};
 ghost use lib.Dec.{T};
-ghost use lib.Ieee.{binary32, binary64, fits, toBits, lt};
+ghost use lib.Ieee.{binary32, fits, lt};
 ghost use lib.Ieee.Scale.{finite};
-ghost use Rattle.floats.specs.Operations.{_⊕_, f64};
 ghost use Rattle.floats.specs.Narrowing.{nearestWhole};
 ghost use Rattle.compound.specs.Special.{minusOne};
 ghost use Rattle.compound.specs.Scaling as scaling;
-ghost use Rattle.compound.specs.Fast.{inverseIndex};
+ghost use Rattle.compound.specs.Fast.{HasInverse};
 ghost use Rattle.compound.specs.Slow as spec;
 
 // The coefficient in entries i and i + 1 added to v, and the sum times z.
@@ -111,7 +110,7 @@ fn sum_of_logs(e: f64, a: DoubleDouble, b: DoubleDouble) -> DoubleDouble
 
 // e + log2(v.hi + v.lo), for a v.hi that has an inverse.
 fn log2_reduced(e: f64, v: DoubleDouble) -> DoubleDouble
-    requires { ⌜ 0x2002d ≤ toBits binary64 (v .hi ⊕ f64 0x4000_0000_0000_0000) / 2 ^ 45 ⌝ ∗ ⌜ inverseIndex (v .hi) < 46 ⌝ }
+    requires { ⌜ HasInverse (v .hi) ⌝ }
     ensures { λ r. ⌜ r ≡ spec.log2Reduced e v ⌝ }
 {
     let i = inverse_index(v.hi);
@@ -126,7 +125,7 @@ fn log2_reduced(e: f64, v: DoubleDouble) -> DoubleDouble
 
 // Near log2(1 + x) for the f64 of an f32 above -1. The source says that the relative error is below
 // 2^-91.123; `higher` does not bear that out, and nothing here rests on it.
-pub fn compoundf_log2p1_accurate(x: f64) -> DoubleDouble
+fn compoundf_log2p1_accurate(x: f64) -> DoubleDouble
     requires { ⌜ T (fits binary32 x) ⌝ ∗ ⌜ T (finite x) ⌝ ∗ ⌜ T (lt minusOne x) ⌝ }
     ensures { λ r. ⌜ r ≡ spec.compoundfLog2p1Accurate x ⌝ }
 {
@@ -343,7 +342,7 @@ fn exp2_accurate(t: DoubleDouble) -> f32
 }
 
 // (1 + x)^y for the route `slow`, x and y being the f64s of two f32s.
-pub fn compoundf_accurate(x: f64, y: f64) -> f32
+pub(crate) fn compoundf_accurate(x: f64, y: f64) -> f32
     requires { ⌜ T (fits binary32 x) ⌝ ∗ ⌜ T (finite x) ⌝ ∗ ⌜ T (lt minusOne x) ⌝ }
     ensures { λ r. ⌜ r ≡ spec.compoundfAccurate x y ⌝ }
 {

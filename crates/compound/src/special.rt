@@ -42,7 +42,7 @@ fn class_of_y(ny: u32) -> u32
 
 // The answer of the special table, for the patterns of x and y: a row of classes of y for each class
 // of x. Where no row of the table fits it is a NaN, but `f_compoundf` does not ask then.
-pub fn as_compoundf_special(nx: u32, ny: u32) -> f32
+pub(crate) fn as_compoundf_special(nx: u32, ny: u32) -> f32
     ensures { λ r. ⌜ r ≡ special (ofBits binary32 nx) (ofBits binary32 ny) ⌝ }
 {
     let y = class_of_y(ny);
@@ -90,7 +90,7 @@ pub fn as_compoundf_special(nx: u32, ny: u32) -> f32
 
 // Whether x and y take the route `rule`, as `f_compoundf` has it: x <= -1 or a negative NaN, or one
 // of the two a zero, an infinity or a NaN.
-pub fn is_rule(nx: u32, ny: u32) -> bool
+pub(crate) fn is_rule(nx: u32, ny: u32) -> bool
     ensures { λ r. ⌜ r ≡ isRule (ofBits binary32 nx) (ofBits binary32 ny) ⌝ }
 {
     let ax = nx % 0x8000_0000;

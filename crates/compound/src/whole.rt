@@ -13,7 +13,7 @@ ghost use Rattle.compound.specs.Whole as spec;
 
 // Whether x and y take this route, by their patterns: y is whole, at most 16 in size, and x is below
 // 2^64 in size. The tests are counted, so that there is one branch on all three.
-pub fn is_whole(nx: u32, ny: u32) -> bool
+pub(crate) fn is_whole(nx: u32, ny: u32) -> bool
     ensures { λ r. ⌜ r ≡ spec.isWhole (ofBits binary32 nx) (ofBits binary32 ny) ⌝ }
 {
     let small_y = at_most(ny % 0x8000_0000, 0x4180_0000);
@@ -58,7 +58,7 @@ fn squarings(s: f64, n: u32) -> f64
 }
 
 // The answer of the route `whole`. For |x| up to 2^-29 it is 1.0 + y * x, which is always 1.
-pub fn whole(x: f32, y: f32) -> f32
+pub(crate) fn whole(x: f32, y: f32) -> f32
     requires { ⌜ spec.isWhole x y ≡ true ⌝ }
     ensures { λ r. ⌜ r ≡ spec.whole x y ⌝ }
 {

@@ -9,7 +9,7 @@ ghost use lib.ListN.{getD};
 ghost use Rattle.tables.specs.Tables as spec;
 
 // The patterns of a double-double: lo, then hi.
-pub struct Bits(pub u64, pub u64);
+struct Bits(u64, u64);
 
 // Entry i of LOG2P1_COMPOUNDF_INV: near 1/t for t from 1/2 + (i + 13)/64 to 1/2 + (i + 14)/64.
 pub fn log2p1_compoundf_inv(i: u64) -> f64

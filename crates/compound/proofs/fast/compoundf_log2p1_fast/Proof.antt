@@ -3,7 +3,7 @@
 use borrow.Author.Needs.{needs}
 use mathlib.Core.Path.{_≡_, sym, subst}
 use mathlib.Core.Bool.{not}
-use Prim.Native.Nat.{ℕ, _/_, _^_, _≤_, _<_}
+use Prim.Native.Nat.{ℕ, _<_}
 use native.Mathlib.Nat.{not-le-of-lt}
 use lib.Dec.{T}
 use lib.IntN.{negℤ}
@@ -15,7 +15,7 @@ use Rattle.double_double.specs.DoubleDouble.{ddFmla}
 use Rattle.tables.specs.Tables.{entry, pairEntry, log2p1CompoundfInv, log2p1CompoundfLog2Inv}
 use Rattle.compound.specs.Special.{one, minusOne}
 use Rattle.compound.specs.Scaling.{scaled, exponentOf}
-use Rattle.compound.specs.Fast.{inverseIndex, log2p1Polyeval1, compoundfLog2p1Fast}
+use Rattle.compound.specs.Fast.{inverseIndex, HasInverse, log2p1Polyeval1, compoundfLog2p1Fast}
 use Rattle.compound.proofs.Index.{reduced-number, reduced-index}
 use Rattle.compound.proofs.Scaled.{one-plus-clear, one-plus-number}
 use Rattle.compound.proofs.fast.compoundf_log2p1_fast.Statement.{statement}
@@ -23,10 +23,9 @@ use Rattle.compound.proofs.fast.compoundf_log2p1_fast.Tie as tie
 
 -- t has an inverse, of index i
 indexed : (x : Float) (w : ℕ) → T (fits binary64 x) → T (lt minusOne x) → w ≡ scaled (toBits binary64 (one ⊕ x)) (negℤ (exponentOf (toBits binary64 (one ⊕ x))))
-    → (0x2002d ≤ toBits binary64 (f64 w ⊕ f64 0x4000000000000000) / 2 ^ 45) × (inverseIndex (f64 w) < 46)
+    → HasInverse (f64 w)
 indexed x w f h e =
-    subst (λ (u : ℕ). (0x2002d ≤ toBits binary64 (f64 u ⊕ f64 0x4000000000000000) / 2 ^ 45) × (inverseIndex (f64 u) < 46)) (sym e)
-    (reduced-index (toBits binary64 (one ⊕ x)) (one-plus-clear x f h))
+    subst (λ (u : ℕ). HasInverse (f64 u)) (sym e) (reduced-index (toBits binary64 (one ⊕ x)) (one-plus-clear x f h))
 
 index-below : (x : Float) (w i : ℕ) → T (fits binary64 x) → T (lt minusOne x) → w ≡ scaled (toBits binary64 (one ⊕ x)) (negℤ (exponentOf (toBits binary64 (one ⊕ x))))
     → i ≡ inverseIndex (f64 w) → i < 46

@@ -2,17 +2,17 @@
 -- Assumes nothing.
 use borrow.Author.Needs.{needs}
 use mathlib.Core.Path.{_≡_, sym, subst}
-use Prim.Native.Nat.{ℕ, _/_, _^_, _≤_, _<_}
+use Prim.Native.Nat.{ℕ}
 use lib.Dec.{T}
 use lib.IntN.{ℤ, pos}
-use lib.Ieee.{Float, fin, binary64, fits, toBits, ofBits, lt, toSigned}
+use lib.Ieee.{Float, fin, binary64, fits, ofBits, lt, toSigned}
 use mathlib.Core.Bool.{true, false}
 use denote.Floats.{passes}
-use Rattle.floats.specs.Operations.{_⊕_, _⊖_, f64}
+use Rattle.floats.specs.Operations.{_⊖_, f64}
 use Rattle.floats.specs.Narrowing.{nearestWhole}
 use Rattle.compound.specs.declared.Exp2.{Exp2}
 use Rattle.compound.specs.Scaling.{scaled}
-use Rattle.compound.specs.Fast.{powerIndex, exp2Reduced, roundingTest, exp2Fast}
+use Rattle.compound.specs.Fast.{HasPower, exp2Reduced, roundingTest, exp2Fast}
 use Rattle.compound.proofs.Index.{Castable, whole-k, distance-index}
 use Rattle.compound.proofs.fast.exp2_fast.Statement.{statement}
 use Rattle.compound.proofs.fast.exp2_fast.Tie as tie
@@ -20,7 +20,7 @@ use Rattle.compound.proofs.fast.exp2_fast.Tie as tie
 in-range : tie.Need-exp2-reduced-requires
 in-range c κs =
     let t = c .before .args .t in
-    subst (λ (k : Float). (0x10010 ≤ toBits binary64 (f64 0x4008200000000000 ⊕ (t ⊖ k)) / 2 ^ 46) × (powerIndex (t ⊖ k) < 33)) (sym (c .round-ties-even .ensures))
+    subst (λ (k : Float). HasPower (t ⊖ k)) (sym (c .round-ties-even .ensures))
     (distance-index t (passes _ (c .before .good .0 .1)) (c .before .pre .0) (c .before .pre .1))
 
 -- k is the nearest whole value to t

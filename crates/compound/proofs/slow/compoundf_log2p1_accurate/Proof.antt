@@ -9,12 +9,12 @@ use lib.Dec.{T, lit<}
 use lib.Ieee.{Float, binary32, binary64, fits, toBits, ofInt, lt}
 use lib.Ieee.Scale.{finite}
 use mir.Facts.{fits-le, fits-lit}
-use Rattle.floats.specs.Operations.{_⊕_, _⊗_, f64}
+use Rattle.floats.specs.Operations.{_⊗_}
 use Rattle.double_double.specs.declared.DoubleDouble.{DoubleDouble}
 use Rattle.tables.specs.Tables.{entry, log2p1Scale}
 use Rattle.compound.specs.Special.{minusOne}
 use Rattle.compound.specs.Scaling.{biased, exponentOf}
-use Rattle.compound.specs.Fast.{inverseIndex}
+use Rattle.compound.specs.Fast.{HasInverse}
 use Rattle.compound.specs.Slow.{onePlus, log2Reduced, compoundfLog2p1Accurate}
 use Rattle.compound.proofs.Field.{biased-near}
 use Rattle.compound.proofs.Scaled.{one-plus-bits, accurate-index}
@@ -74,9 +74,9 @@ in-range : tie.Need-log2-reduced-requires
 in-range c κs =
     let start = c .before .before .before .before .before .before .before in
     let index = accurate-index (start .args .x) (start .pre .0) (start .pre .1 .0) (start .pre .1 .1) in
-    subst (λ (h : Float). (0x2002d ≤ toBits binary64 (h ⊕ f64 0x4000000000000000) / 2 ^ 45) × (inverseIndex h < 46))
+    subst HasInverse
     (sym (product-is (start .args .x) _ _ _ _ (c .before .before .before .before .before .before .one-plus .ensures) (c .before .before .before .before .before .to-bits-f64 .ensures) (c .before .before .before .before .biased .ensures) (c .before .before .before .log2p1-scale .ensures)))
-    (index .1, index .2)
+    (index .1)
 
 -- the results of the calls together are the definition
 together : (x : Float) (v : DoubleDouble) (bits b : ℕ) (s e : Float) (r : DoubleDouble) → v ≡ onePlus x → bits ≡ toBits binary64 (v .hi) → b ≡ biased bits → s ≡ entry log2p1Scale (b + 29 - 1023)
