@@ -1,0 +1,1 @@
+-- The theorems, and the laws under them.
