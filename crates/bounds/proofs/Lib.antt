@@ -1,1 +1,3 @@
 -- The laws that the crates above cite.
+pub mod Values
+pub mod Operation
