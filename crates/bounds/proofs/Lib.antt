@@ -1,3 +1,4 @@
 -- The laws that the crates above cite.
 pub mod Values
 pub mod Operation
+pub mod Sums
