@@ -2,3 +2,4 @@
 pub mod Values
 pub mod Operation
 pub mod Sums
+pub mod Products
