@@ -3,3 +3,4 @@ pub mod Values
 pub mod Operation
 pub mod Sums
 pub mod Products
+pub mod Scales
