@@ -4,3 +4,4 @@ pub mod Operation
 pub mod Sums
 pub mod Products
 pub mod Scales
+pub mod Distances

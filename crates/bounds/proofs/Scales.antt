@@ -65,7 +65,7 @@ neg-bound {μ} {K} {x} b = record { scale = b .scale; number = neg-number (b .nu
 abbrev pub ok : ℕ → Bool
 ok K = leb K (2 ^ 200)
 
-small-limit : (K μ : ℕ) → T (ok K) → μ ≤ 2 ^ 1210 → K * μ * 2 ^ 40 ≤ limit
+pub small-limit : (K μ : ℕ) → T (ok K) → μ ≤ 2 ^ 1210 → K * μ * 2 ^ 40 ≤ limit
 unfolding limit
 small-limit K μ k m = le-trans (mul-le-mul-right (2 ^ 40) (mul-le-mul (leb→le K (2 ^ 200) k) m)) (lit≤ tt)
 
@@ -98,10 +98,10 @@ rounded-up m k μ P h =
     cut : (m a b : ℕ) → m * 2 ^ 53 ≤ a * 2 ^ 53 + a → a ≤ b * 2 ^ 53 → m ≤ a + b
     cut m a b h e = omega arith
 
-both-sizes : {μ K L : ℕ} {x y : Float} → Bound μ K x → Bound μ L y → mag x + mag y ≤ (K + L) * μ
+pub both-sizes : {μ K L : ℕ} {x y : Float} → Bound μ K x → Bound μ L y → mag x + mag y ≤ (K + L) * μ
 both-sizes {μ} {K} {L} p q = le-trans (add-le-add (p .size) (q .size)) (le-of-eq (sym (add-mul K L μ)))
 
-one-part : (d l : ℕ) → d * 2 ^ 40 ≤ l → (d ≤ l) × (4 * d ≤ l)
+pub one-part : (d l : ℕ) → d * 2 ^ 40 ≤ l → (d ≤ l) × (4 * d ≤ l)
 one-part d l h = (omega arith, omega arith)
 
 pub add-bound : {μ K L : ℕ} {x y : Float} → Bound μ K x → Bound μ L y → T (ok (K + L)) → Bound μ (sumK K L) (x ⊕ y)
@@ -270,7 +270,7 @@ abbrev pub quickLoK : ℕ → ℕ → ℕ → ℕ → ℕ
 quickLoK K k L l = sumK (dekkerK K L) (sumK (productK K l) (productK k L))
 
 -- what the numbers of the factors have to be for it
-abbrev quickOk : ℕ → ℕ → ℕ → ℕ → Bool
+abbrev pub quickOk : ℕ → ℕ → ℕ → ℕ → Bool
 quickOk K k L l = ok K && ok k && ok L && ok l && ok (productK K l + productK k L) && ok (dekkerK K L + sumK (productK K l) (productK k L))
 
 pub quick-bounds : {μ ν π K k L l : ℕ} {x y : DoubleDouble} → Through μ ν π → Bounds μ K k x → Bounds ν L l y → T (quickOk K k L l) → Bounds π (productK K L) (quickLoK K k L l) (quickMult x y)
@@ -307,16 +307,19 @@ fmlaLoK K L C = sumK (dekkerK K L) (fullK (productK K L) C)
 abbrev pub fmlaK : ℕ → ℕ → ℕ → ℕ
 fmlaK K L C = sumK (fmlaLoK K L C) (sumK (productK K L) C)
 
-abbrev fmlaOk : ℕ → ℕ → ℕ → Bool
+abbrev pub fmlaOk : ℕ → ℕ → ℕ → Bool
 fmlaOk K L C = ok K && ok L && ok (productK K L + C) && ok (dekkerK K L + fullK (productK K L) C) && ok (fmlaLoK K L C + sumK (productK K L) C)
+
+pub fmla-parts : (K L C : ℕ) → T (fmlaOk K L C) → T (ok K) × T (ok L) × T (ok (productK K L + C)) × T (ok (dekkerK K L + fullK (productK K L) C)) × T (ok (fmlaLoK K L C + sumK (productK K L) C))
+fmla-parts K L C g = five (ok K) (ok L) (ok (productK K L + C)) (ok (dekkerK K L + fullK (productK K L) C)) (ok (fmlaLoK K L C + sumK (productK K L) C)) g
+  where
+    five : (a b c d e : Bool) → T (a && b && c && d && e) → T a × T b × T c × T d × T e
+    five true true true true true h = (tt, tt, tt, tt, tt)
 
 pub fmla-bound : {μ ν π K L C : ℕ} {x y c : Float} → Through μ ν π → Bound μ K x → Bound ν L y → Bound π C c → T (fmlaOk K L C) → Bound π (fmlaK K L C) (ddFmla x y c)
 unfolding ddFmla fullAddF64
 fmla-bound {μ} {ν} {π} {K} {L} {C} {x} {y} {c} t p q r g =
-    let o = five (ok K) (ok L) (ok (productK K L + C)) (ok (dekkerK K L + fullK (productK K L) C)) (ok (fmlaLoK K L C + sumK (productK K L) C)) g in
+    let o = fmla-parts K L C g in
     let m = dekker-bounds t p q (o .0) (o .1) in
     let s = full-bounds (m .hi) r (o .2) in
     add-bound (add-bound (m .lo) (s .lo) (o .3)) (s .hi) (o .4)
-  where
-    five : (a b c d e : Bool) → T (a && b && c && d && e) → T a × T b × T c × T d × T e
-    five true true true true true h = (tt, tt, tt, tt, tt)

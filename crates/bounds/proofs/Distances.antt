@@ -1,0 +1,124 @@
+-- How far two values can be from each other, on a scale: a sum is as far from one of its terms as the other term is large, and a rounding
+-- (`add-apart`); `ddFmla` is as far from c as the product is large, and its roundings (`fmla-apart`). From a distance to a known value a size follows from
+-- below (`not-less`, `not-below`). Assumes nothing.
+use mathlib.Core.Path.{_≡_, sym, ap, _∙_, subst}
+use mathlib.Core.Logic.{_⊎_, inl, inr}
+use Prim.Native.Nat.{ℕ, _+_, _*_, _/_, _^_, _≤_, _<_}
+use native.Mathlib.Nat.{le-trans, le-of-eq, mul-le-mul-right, mul-right-comm, add-mul, add-le-add, le-refl}
+use native.Mathlib.Omega.{arith}
+use lib.Dec.{T, leb, leb→le}
+use lib.Ieee.{Float}
+use Rattle.floats.specs.Operations.{_⊕_}
+use Rattle.double_double.specs.DoubleDouble.{fromExactMult, fromFullExactAdd, fullAddF64, ddFmla}
+use Rattle.bounds.proofs.Values.{plus, less, mag, one-side}
+use Rattle.bounds.proofs.Operation.{limit, Close, add-near}
+use Rattle.bounds.proofs.Sums.{sum-small}
+use Rattle.bounds.proofs.Scales.{Scale, Bound, both-sizes, one-part, small-limit, ok, sumK, productK, dekkerK, fullK, Through, add-bound, dekker-bounds, full-bounds, fmlaLoK, fmlaOk, fmla-parts}
+
+pub record Apart (μ K : ℕ) (x y : Float) : Type 0 where
+  pub over : plus x + less y ≤ less x + plus y + K * μ
+  pub under : plus y + less x ≤ less y + plus x + K * μ
+
+pub apart-at : {μ K : ℕ} {x y : Float} (M : ℕ) → Apart μ K x y → T (leb K M) → Apart μ M x y
+apart-at {μ} {K} {x} {y} M a t = record { over = go (plus x + less y) (less x + plus y) (a .over); under = go (plus y + less x) (less y + plus x) (a .under) }
+  where
+    go : (p n : ℕ) → p ≤ n + K * μ → p ≤ n + M * μ
+    go p n h = le-trans h (add-le-add (le-refl n) (mul-le-mul-right μ (leb→le K M t)))
+
+pub apart-through : {μ K L : ℕ} {x y z : Float} → Apart μ K x y → Apart μ L y z → Apart μ (K + L) x z
+apart-through {μ} {K} {L} {x} {y} {z} a b = record {
+  over = go (plus x) (less x) (plus y) (less y) (plus z) (less z) (K * μ) (L * μ) ((K + L) * μ) (add-mul K L μ) (a .over) (b .over);
+  under = go' (plus x) (less x) (plus y) (less y) (plus z) (less z) (K * μ) (L * μ) ((K + L) * μ) (add-mul K L μ) (a .under) (b .under);
+}
+  where
+    go : (p n q m r l i j k : ℕ) → k ≡ i + j → p + m ≤ n + q + i → q + l ≤ m + r + j → p + l ≤ n + r + k
+    go p n q m r l i j k e g h = omega arith
+
+    go' : (p n q m r l i j k : ℕ) → k ≡ i + j → q + n ≤ m + p + i → r + m ≤ l + q + j → r + n ≤ l + p + k
+    go' p n q m r l i j k e g h = omega arith
+
+-- ---- a sum
+abbrev pub apartK : ℕ → ℕ → ℕ
+apartK K L = L + ((K + L) / 2 ^ 53 + 1)
+
+-- d of 2^53 parts
+parts : (k μ : ℕ) → k * μ ≤ (k / 2 ^ 53 + 1) * μ * 2 ^ 53
+parts k μ = le-trans (mul-le-mul-right μ (over k)) (le-of-eq (mul-right-comm (k / 2 ^ 53 + 1) (2 ^ 53) μ))
+  where
+    over : (a : ℕ) → a ≤ (a / 2 ^ 53 + 1) * 2 ^ 53
+    over a = omega arith
+
+-- x + y is off x by y, and from the exact sum by a rounding
+pub add-apart : {μ K L : ℕ} {x y : Float} → Bound μ K x → Bound μ L y → T (ok (K + L)) → Apart μ (apartK K L) (x ⊕ y) x
+add-apart {μ} {K} {L} {x} {y} p q t =
+    let d = (K + L) * μ in
+    let c = add-near d (p .number) (q .number) (sum-small x y d (both-sizes p q)) (one-part d limit (small-limit (K + L) μ t (p .scale .bounded)) .0) in
+    let E = ((K + L) / 2 ^ 53 + 1) * μ in
+    let z = x ⊕ y in
+    let g = past (plus z + (less x + less y)) (less z + (plus x + plus y)) d E (parts (K + L) μ) (c .most) in
+    let h = past (less z + (plus x + plus y)) (plus z + (less x + less y)) d E (parts (K + L) μ) (c .least) in
+    record {
+      over = above (plus x) (less x) (plus y) (less y) (plus z) (less z) (L * μ) E (apartK K L * μ) (add-mul L ((K + L) / 2 ^ 53 + 1) μ) (q .size) g;
+      under = below (plus x) (less x) (plus y) (less y) (plus z) (less z) (L * μ) E (apartK K L * μ) (add-mul L ((K + L) / 2 ^ 53 + 1) μ) (q .size) h;
+    }
+  where
+    past : (a b d E : ℕ) → d ≤ E * 2 ^ 53 → a * 2 ^ 53 ≤ b * 2 ^ 53 + d → a ≤ b + E
+    past a b d E e h = omega arith
+
+    above : (p n q m r l Y E k : ℕ) → k ≡ Y + E → q + m ≤ Y → r + (n + m) ≤ l + (p + q) + E → r + n ≤ l + p + k
+    above p n q m r l Y E k e s h = omega arith
+
+    below : (p n q m r l Y E k : ℕ) → k ≡ Y + E → q + m ≤ Y → l + (p + q) ≤ r + (n + m) + E → p + l ≤ n + r + k
+    below p n q m r l Y E k e s h = omega arith
+
+-- and off y by x
+pub add-apart-right : {μ K L : ℕ} {x y : Float} → Bound μ K x → Bound μ L y → T (ok (K + L)) → Apart μ (K + ((K + L) / 2 ^ 53 + 1)) (x ⊕ y) y
+add-apart-right {μ} {K} {L} {x} {y} p q t =
+    let d = (K + L) * μ in
+    let c = add-near d (p .number) (q .number) (sum-small x y d (both-sizes p q)) (one-part d limit (small-limit (K + L) μ t (p .scale .bounded)) .0) in
+    let E = ((K + L) / 2 ^ 53 + 1) * μ in
+    let z = x ⊕ y in
+    let g = past (plus z + (less x + less y)) (less z + (plus x + plus y)) d E (parts (K + L) μ) (c .most) in
+    let h = past (less z + (plus x + plus y)) (plus z + (less x + less y)) d E (parts (K + L) μ) (c .least) in
+    record {
+      over = above (plus y) (less y) (plus x) (less x) (plus z) (less z) (K * μ) E _ (add-mul K ((K + L) / 2 ^ 53 + 1) μ) (p .size) g;
+      under = below (plus y) (less y) (plus x) (less x) (plus z) (less z) (K * μ) E _ (add-mul K ((K + L) / 2 ^ 53 + 1) μ) (p .size) h;
+    }
+  where
+    past : (a b d E : ℕ) → d ≤ E * 2 ^ 53 → a * 2 ^ 53 ≤ b * 2 ^ 53 + d → a ≤ b + E
+    past a b d E e h = omega arith
+
+    above : (p n q m r l Y E k : ℕ) → k ≡ Y + E → q + m ≤ Y → r + (m + n) ≤ l + (q + p) + E → r + n ≤ l + p + k
+    above p n q m r l Y E k e s h = omega arith
+
+    below : (p n q m r l Y E k : ℕ) → k ≡ Y + E → q + m ≤ Y → l + (q + p) ≤ r + (m + n) + E → p + l ≤ n + r + k
+    below p n q m r l Y E k e s h = omega arith
+
+-- ---- `ddFmla`
+abbrev pub fmlaApartK : ℕ → ℕ → ℕ → ℕ
+fmlaApartK K L C = fmlaLoK K L C + ((fmlaLoK K L C + sumK (productK K L) C) / 2 ^ 53 + 1) + (productK K L + ((productK K L + C) / 2 ^ 53 + 1))
+
+pub fmla-apart : {μ ν π K L C : ℕ} {x y c : Float} → Through μ ν π → Bound μ K x → Bound ν L y → Bound π C c → T (fmlaOk K L C) → Apart π (fmlaApartK K L C) (ddFmla x y c) c
+unfolding ddFmla fullAddF64 fromFullExactAdd
+fmla-apart {μ} {ν} {π} {K} {L} {C} {x} {y} {c} t p q r g =
+    let o = fmla-parts K L C g in
+    let m = dekker-bounds t p q (o .0) (o .1) in
+    let s = full-bounds (m .hi) r (o .2) in
+    apart-through (add-apart-right (add-bound (m .lo) (s .lo) (o .3)) (s .hi) (o .4)) (add-apart-right (m .hi) r (o .2))
+
+-- ---- from below
+-- x is as large as y but for their distance
+pub not-less : {μ K : ℕ} {x y : Float} → Apart μ K x y → mag y ≤ mag x + K * μ
+not-less {μ} {K} {x} {y} a = go (plus x) (less x) (plus y) (less y) (K * μ) (one-side y) (a .over) (a .under)
+  where
+    go : (p n q m d : ℕ) → (q ≡ 0) ⊎ (m ≡ 0) → p + m ≤ n + q + d → q + n ≤ m + p + d → q + m ≤ p + n + d
+    go p n q m d (inl e) g h = omega arith
+    go p n q m d (inr e) g h = omega arith
+
+-- and above 0 where y is further above it than that
+pub not-below : {μ K : ℕ} {x y : Float} → Apart μ K x y → less y ≡ 0 → K * μ < plus y → less x ≡ 0
+not-below {μ} {K} {x} {y} a e h = go (plus x) (less x) (plus y) (less y) (K * μ) (one-side x) e h (a .under)
+  where
+    go : (p n q m d : ℕ) → (p ≡ 0) ⊎ (n ≡ 0) → m ≡ 0 → d < q → q + n ≤ m + p + d → n ≡ 0
+    go p n q m d (inl z) e h g = omega arith
+    go p n q m d (inr z) e h g = z
