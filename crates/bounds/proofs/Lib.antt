@@ -5,3 +5,4 @@ pub mod Sums
 pub mod Products
 pub mod Scales
 pub mod Distances
+pub mod Compared

@@ -97,16 +97,16 @@ by-value (fin u m e) s k t v =
     record { number = record { held = t; plain = tt }; plus-is = ap₂ above (v .0) same; less-is = ap₂ under (v .0) same }
 
 -- ---- a sum
-cross : (s : Bool) (a u i w : ℕ) → a * w ≡ u * i → above s a * w ≡ above s u * i
+pub cross : (s : Bool) (a u i w : ℕ) → a * w ≡ u * i → above s a * w ≡ above s u * i
 cross false a u i w e = e
 cross true a u i w e = zero-mul w ∙ sym (zero-mul i)
 
-cross-under : (s : Bool) (a u i w : ℕ) → a * w ≡ u * i → under s a * w ≡ under s u * i
+pub cross-under : (s : Bool) (a u i w : ℕ) → a * w ≡ u * i → under s a * w ≡ under s u * i
 cross-under true a u i w e = e
 cross-under false a u i w e = zero-mul w ∙ sym (zero-mul i)
 
 -- a / i and b / j are u and v units
-joined : (a b i j u v w : ℕ) → a * w ≡ u * i → b * w ≡ v * j → (a * j + b * i) * w ≡ (u + v) * (i * j)
+pub joined : (a b i j u v w : ℕ) → a * w ≡ u * i → b * w ≡ v * j → (a * j + b * i) * w ≡ (u + v) * (i * j)
 joined a b i j u v w e d =
     add-mul (a * j) (b * i) w
     ∙ ap₂ _+_ (mul-right-comm a j w ∙ ap (λ (z : ℕ). z * j) e ∙ mul-assoc u i j) (mul-right-comm b i w ∙ ap (λ (z : ℕ). z * i) d ∙ mul-assoc v j i ∙ ap (λ (z : ℕ). v * z) (mul-comm j i))

@@ -136,7 +136,7 @@ le-neg =
     go a b (inr u) = or-r (ltb a b) (eqb b a && true) (flip-eq a b true u)
 
 -- a value that is not above zero is at most one that is not below it
-under-zero : (a b : ℕ) → T (ltb 0 (a + b) || (eqb a b && (false || eqb a 0)))
+pub under-zero : (a b : ℕ) → T (ltb 0 (a + b) || (eqb a b && (false || eqb a 0)))
 under-zero zero zero = tt
 under-zero zero (suc b) = or-l (ltb 0 (0 + suc b)) (eqb 0 (suc b) && (false || eqb 0 0)) (lt→ltb 0 (0 + suc b) (omega arith))
 under-zero (suc a) b = or-l (ltb 0 (suc a + b)) (eqb (suc a) b && (false || eqb (suc a) 0)) (lt→ltb 0 (suc a + b) (omega arith))

@@ -125,7 +125,7 @@ before-next k i h x a b = omega (arith, mul-le-mul-right h b)
 fewer-dropped : (z p i : ℕ) → 0 < p → z ≤ p - 1 + suc i → z - p < suc i
 fewer-dropped z p i P h = omega arith
 
-place-below : (p i X : ℕ) → 0 < p → X < 2 ^ (p - 1 + i) → place p X < suc i * 2 ^ (p - 1)
+pub place-below : (p i X : ℕ) → 0 < p → X < 2 ^ (p - 1 + i) → place p X < suc i * 2 ^ (p - 1)
 place-below p zero X P h =
     let l : X < 2 ^ (p - 1) = subst (λ (k : ℕ). X < 2 ^ k) (add-zero (p - 1)) h in
     let z : size X - p ≡ 0 = none (size X) p (le-trans (size-le X (p - 1) l) (sub-le p 1)) in
@@ -135,7 +135,7 @@ place-below p (suc i) X P h =
     before-next (size X - p) (suc i) (2 ^ (p - 1)) (X / 2 ^ (size X - p)) (subst (λ (x : ℕ). X / 2 ^ (size X - p) < x) (twice p P) (kept-lt p X))
     (fewer-dropped (size X) p i P (size-le X (p - 1 + suc i) h))
 
-place-above : (p i X : ℕ) → 0 < p → 2 ^ (p - 1 + i) ≤ X → suc i * 2 ^ (p - 1) ≤ place p X
+pub place-above : (p i X : ℕ) → 0 < p → 2 ^ (p - 1 + i) ≤ X → suc i * 2 ^ (p - 1) ≤ place p X
 place-above p i X P h =
     le-trans (le-of-eq (last i (2 ^ (p - 1)) ∙ sym (place-at p (2 ^ (p - 1)) i (full-drop p (2 ^ (p - 1)) i P (le-refl (2 ^ (p - 1))) (pow-lt (less-one p P))))))
     (place-mono p (2 ^ (p - 1) * 2 ^ i) X P (le-trans (le-of-eq (sym (pow-add 2 (p - 1) i))) h))

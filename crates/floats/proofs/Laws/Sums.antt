@@ -134,7 +134,7 @@ add-number f nan t n d h = absurd h
 add-number f (inf s) t n d h = tt
 add-number f (fin s m e) t n d h = subst (λ (y : Float). T (not (isNan y))) (sym (add-rounded f s m e t n d .is)) (round-number f _ _ _)
 
-le-says : (s : Bool) (m : ℕ) (e : ℤ) (t : Bool) (n : ℕ) (d : ℤ) → T (le (fin s m e) (fin t n d))
+pub le-says : (s : Bool) (m : ℕ) (e : ℤ) (t : Bool) (n : ℕ) (d : ℤ) → T (le (fin s m e) (fin t n d))
     → above s (m * up e) * down d + under t (n * up d) * down e ≤ above t (n * up d) * down e + under s (m * up e) * down d
 unfolding le
 le-says s m e t n d h =
