@@ -1,1 +1,3 @@
 -- The theorems, and the laws under them.
+pub mod Plain
+pub mod RuleValues
