@@ -1,3 +1,4 @@
 -- The theorems, and the laws under them.
 pub mod Plain
 pub mod RuleValues
+pub mod WholeValues
