@@ -2,3 +2,4 @@
 pub mod Plain
 pub mod RuleValues
 pub mod WholeValues
+pub mod TableValues
