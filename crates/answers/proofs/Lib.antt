@@ -3,3 +3,4 @@ pub mod Plain
 pub mod RuleValues
 pub mod WholeValues
 pub mod TableValues
+pub mod Signs
