@@ -1,6 +1,6 @@
 -- The claims on NaN and on the sign, route by route: an answer is a NaN exactly where x or y is NaN or x is below -1, and it is plain otherwise
 -- (`answer-told`). What is left is the slow path, by hypothesis. Assumes nothing.
-use mathlib.Core.Path.{_≡_, refl, sym, ap₂, _∙_, subst}
+use mathlib.Core.Path.{_≡_, refl, sym, ap₂, subst}
 use mathlib.Core.Bool.{Bool, true, false, cond, _||_}
 use Prim.Native.Nat.{_*_}
 use native.Mathlib.Nat.{le-of-lt}
@@ -11,7 +11,7 @@ use lib.Ieee.Bits.{is-false}
 use Rattle.compound.specs.Answer.{rule, whole}
 use Rattle.compound.specs.Special.{minusOne, isRule, special}
 use Rattle.compound.specs.Whole as Whole
-use Rattle.compound.specs.Route.{Tabled, tablePath, compound}
+use Rattle.compound.specs.Route.{tablePath, compound}
 use Rattle.compound.proofs.Rule.{OffRule, off-rule, finite-number}
 use Rattle.answers.specs.Claims.{answer, nanExactly, signClear}
 use Rattle.answers.proofs.Plain.{Plain, AsTold, told-nan, told-sign}
