@@ -8,7 +8,7 @@ use borrow.Author.Tests.{le-ltb}
 use lib.Dec.{T, ltb→lt}
 use lib.Ieee.{Float, nan, inf, fin, binary32, up, down, fits, isNan, lt}
 use lib.Ieee.Bits.{is-false}
-use Rattle.compound.specs.Answer.{rule, whole}
+use Rattle.compound.specs.Answer.{Outcome, rule, whole}
 use Rattle.compound.specs.Special.{minusOne, isRule, special}
 use Rattle.compound.specs.Whole as Whole
 use Rattle.compound.specs.Route.{tablePath, compound}
@@ -32,12 +32,16 @@ told-plain : (x y : Float) → OffRule x y → (isNan x || isNan y || lt x minus
 told-plain x y o =
     ap₂ _||_ (ap₂ _||_ (is-false (isNan x) (finite-number x (o .x-finite))) (is-false (isNan y) (finite-number y (o .y-finite)))) (above-not-below x (o .x-above))
 
+-- the choice that is left there
+abbrev beyond : Float → Float → Bool → Outcome
+beyond x y b = cond b (record { via = whole; value = Whole.whole x y }) (tablePath x y)
+
 module _ (slow : SlowClear) (x y : Float) (x-fits : T (fits binary32 x)) (y-fits : T (fits binary32 y)) where
   -- ---- and every one is plain
-  past-rule : OffRule x y → Plain (cond (Whole.isWhole x y) (record { via = whole; value = Whole.whole x y }) (tablePath x y) .value)
-  past-rule o = go (Whole.isWhole x y) refl
+  beyond-plain : OffRule x y → Plain (beyond x y (Whole.isWhole x y) .value)
+  beyond-plain o = go (Whole.isWhole x y) refl
     where
-      go : (b : Bool) → Whole.isWhole x y ≡ b → Plain (cond b (record { via = whole; value = Whole.whole x y }) (tablePath x y) .value)
+      go : (b : Bool) → Whole.isWhole x y ≡ b → Plain (beyond x y b .value)
       go true e = whole-plain x y (o .x-above) e
       go false e = table-plain slow x y (record { x-fits = x-fits; x-finite = o .x-finite; x-above = o .x-above; y-fits = y-fits; y-finite = o .y-finite })
 
@@ -45,10 +49,12 @@ module _ (slow : SlowClear) (x y : Float) (x-fits : T (fits binary32 x)) (y-fits
   unfolding compound
   answer-told = go (isRule x y) refl
     where
-      go : (b : Bool) → isRule x y ≡ b
-          → AsTold (isNan x || isNan y || lt x minusOne) (cond b (record { via = rule; value = special x y }) (cond (Whole.isWhole x y) (record { via = whole; value = Whole.whole x y }) (tablePath x y)) .value)
+      rest : Outcome
+      rest = beyond x y (Whole.isWhole x y)
+
+      go : (b : Bool) → isRule x y ≡ b → AsTold (isNan x || isNan y || lt x minusOne) (cond b (record { via = rule; value = special x y }) rest .value)
       go true e = rule-told x y e
-      go false e = subst (λ (b : Bool). AsTold b (cond (Whole.isWhole x y) (record { via = whole; value = Whole.whole x y }) (tablePath x y) .value)) (sym (told-plain x y (off-rule x y e))) (past-rule (off-rule x y e))
+      go false e = subst (λ (b : Bool). AsTold b (rest .value)) (sym (told-plain x y (off-rule x y e))) (beyond-plain (off-rule x y e))
 
   -- ---- "The answer is NaN exactly when x is NaN, y is NaN, or x < -1."
   pub nan-exactly : nanExactly x y

@@ -5,7 +5,7 @@ use mathlib.Core.Bool.{Bool, true, false, not, cond, true≢false}
 use Prim.Native.Nat.{ℕ, _+_, _*_, _%_, _^_, _<_}
 use native.Mathlib.Omega.{arith}
 use borrow.Author.Tests.{lt-ltb}
-use lib.Dec.{T, leb}
+use lib.Dec.{T, leb, ltb}
 use lib.IntN.{pos, negsuc}
 use lib.Ieee.{Float, nan, inf, fin, binary32, binary64, up, down, add, sub, lt, le, eq, ne, fits, toBits, ofBits}
 use lib.Ieee.Fits.{down-pos, add-fits}
@@ -52,15 +52,15 @@ least-is : f64 0x38100000000008e2 ≡ least
 unfolding ofBits
 least-is = refl
 
-least-positive : (a d : ℕ) → 0 < d → 0 < a + 2251799813686385 * 1 * d
-least-positive a d h = omega (arith, h)
+least-positive : (a d : ℕ) → 0 < d → ltb 0 (a + 2251799813686385 * 1 * d) ≡ true
+least-positive a d h = lt-ltb 0 (a + 2251799813686385 * 1 * d) (omega (arith, h))
 
 passed-clear : (v err : Float) → lt v least ≡ false → ne (narrowed (v ⊖ err)) (narrowed (v ⊕ err)) ≡ false → T (clear v)
 unfolding lt ne sub add narrowed
 passed-clear nan err h k = absurd (true≢false k)
 passed-clear (inf true) err h k = absurd (true≢false h)
 passed-clear (inf false) err h k = tt
-passed-clear (fin true m e) err h k = absurd (true≢false (sym (lt-ltb 0 (m * up e * 2 ^ 177 + 2251799813686385 * 1 * down e) (least-positive (m * up e * 2 ^ 177) (down e) (down-pos e))) ∙ h))
+passed-clear (fin true m e) err h k = absurd (true≢false (sym (least-positive (m * up e * 2 ^ 177) (down e) (down-pos e)) ∙ h))
 passed-clear (fin false m e) err h k = tt
 
 -- ---- the choice between the two
@@ -87,7 +87,8 @@ table-plain slow x y p = go (le t (fin true 75 (pos 1))) (lt t (fin false 1 (pos
     t = compoundfLog2p1Fast x ⊗ y
 
     go : (a b c : Bool) → le t (fin true 75 (pos 1)) ≡ a → lt t (fin false 1 (pos 7)) ≡ b → leb (toBits binary64 t * 2 % 2 ^ 64) 0x3e6715476ba97f14 ≡ c
-        → Plain (cond a (record { via = edge; value = Special.zero }) (cond (not b) (record { via = edge; value = Special.+infinity }) (cond c (record { via = edge; value = Special.one }) (decided x y (exp2Fast t)))) .value)
+        → Plain (cond a (record { via = edge; value = Special.zero })
+        (cond (not b) (record { via = edge; value = Special.+infinity }) (cond c (record { via = edge; value = Special.one }) (decided x y (exp2Fast t)))) .value)
     go true b c d e f = plain-zero
     go false false c d e f = plain-infinity
     go false true true d e f = plain-one

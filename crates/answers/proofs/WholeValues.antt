@@ -49,7 +49,11 @@ fraction-pos e d = mul-pos (down-pos e) (down-pos d)
 
 from-one-product : (x y : Float) → T (le one x) → T (le one y) → T (le one (x ⊗ y))
 unfolding le mul fits
-from-one-product x y h k = clear-both (λ (x y : Float). T (le one x) → T (le one y) → T (le one (x ⊗ y))) (λ h k. tt) (λ n d h k. infinite n (from-one-some n d k)) (λ m e h k. infinite m (from-one-some m e h))
+from-one-product x y h k =
+    clear-both (λ (x y : Float). T (le one x) → T (le one y) → T (le one (x ⊗ y)))
+    (λ h k. tt)
+    (λ n d h k. infinite n (from-one-some n d k))
+    (λ m e h k. infinite m (from-one-some m e h))
     (λ m e n d h k. round-at-least binary64 one (m * up e * (n * up d)) (down e * down d) 1 1 (fraction-pos e d) (lit< tt) tt (refl, refl)
     (together (down e) (m * up e) (down d) (n * up d) (at-most (1 * 1 * down e) (m * up e * 1) h) (at-most (1 * 1 * down d) (n * up d * 1) k)))
     x y (from-one-clear x h) (from-one-clear y k) h k
@@ -68,7 +72,11 @@ ToOne x = T (clear x) × T (le x one)
 
 to-one-product : (x y : Float) → ToOne x → ToOne y → ToOne (x ⊗ y)
 unfolding le mul fits
-to-one-product x y h k = clear-both (λ (x y : Float). T (le x one) → T (le y one) → ToOne (x ⊗ y)) (λ h k. absurd h) (λ n d h k. absurd h) (λ m e h k. absurd k)
+to-one-product x y h k =
+    clear-both (λ (x y : Float). T (le x one) → T (le y one) → ToOne (x ⊗ y))
+    (λ h k. absurd h)
+    (λ n d h k. absurd h)
+    (λ m e h k. absurd k)
     (λ m e n d h k. (
       round-clear binary64 (m * up e * (n * up d)) (down e * down d),
       round-at-most binary64 one (m * up e * (n * up d)) (down e * down d) 1 1 (fraction-pos e d) (lit< tt) tt (refl, refl)
@@ -104,15 +112,18 @@ one-of-both (inf false) c = inl tt
 one-of-both (fin true m e) c = absurd c
 one-of-both (fin false m e) c = go (leb (down e) (m * up e)) (leb→le (down e) (m * up e)) (nleb→lt (down e) (m * up e))
   where
+    x : Float
+    x = fin false m e
+
     above-it : (D M : ℕ) → D ≤ M → 1 * D ≤ M * 1
     above-it D M h = omega (arith, h)
 
     below-it : (D M : ℕ) → M < D → M * 1 ≤ 1 * D
     below-it D M h = omega (arith, h)
 
-    go : (b : Bool) → (T b → down e ≤ m * up e) → (T (not b) → m * up e < down e) → T (le one (fin false m e)) ⊎ T (le (fin false m e) one)
-    go true h k = inl (le-of-values one (fin false m e) 1 1 (m * up e) (down e) (lit< tt) (down-pos e) (refl, refl) (refl, refl) (above-it (down e) (m * up e) (h tt)))
-    go false h k = inr (le-of-values (fin false m e) one (m * up e) (down e) 1 1 (down-pos e) (lit< tt) (refl, refl) (refl, refl) (below-it (down e) (m * up e) (k tt)))
+    go : (b : Bool) → (T b → down e ≤ m * up e) → (T (not b) → m * up e < down e) → T (le one x) ⊎ T (le x one)
+    go true h k = inl (le-of-values one x 1 1 (m * up e) (down e) (lit< tt) (down-pos e) (refl, refl) (refl, refl) (above-it (down e) (m * up e) (h tt)))
+    go false h k = inr (le-of-values x one (m * up e) (down e) 1 1 (down-pos e) (lit< tt) (refl, refl) (refl, refl) (below-it (down e) (m * up e) (k tt)))
 
 power-clear : (s : Float) (n : ℕ) → T (clear s) → T (clear (power s n))
 power-clear s n c = go (one-of-both s c)
@@ -131,14 +142,18 @@ reciprocal-clear (fin true n d) c = absurd c
 reciprocal-clear (fin false n d) c = either (λ (x : Float). T (clear x)) (eqb n 0) (inf false) _ tt (round-clear binary64 (1 * 1 * down d) (n * up d * 1))
 
 -- ---- x + 1 for an x above -1
+difference-clear : (a b c : ℕ) → T (ltb a b) → T (clear (sum binary64 true a false b c))
+unfolding sum
+difference-clear a b c h =
+    subst (λ (u : Bool). T (clear (cond u (round binary64 false (b - a) c) (round binary64 (ltb b a) (a - b) c)))) (sym (is-true (ltb a b) h)) (round-clear binary64 (b - a) c)
+
 sum-clear : (x : Float) → T (lt minusOne x) → T (clear (x ⊕ one))
-unfolding lt add sum
+unfolding lt add
 sum-clear nan h = absurd h
 sum-clear (inf true) h = absurd h
 sum-clear (inf false) h = tt
-sum-clear (fin false m e) h = round-clear binary64 (m * up e * 1 + 1 * 1 * down e) (down e * 1)
-sum-clear (fin true m e) h = subst (λ (b : Bool). T (clear (cond b (round binary64 false (1 * 1 * down e - m * up e * 1) (down e * 1)) (round binary64 (ltb (1 * 1 * down e) (m * up e * 1)) (m * up e * 1 - 1 * 1 * down e) (down e * 1)))))
-    (sym (is-true (ltb (m * up e * 1) (1 * 1 * down e)) h)) (round-clear binary64 (1 * 1 * down e - m * up e * 1) (down e * 1))
+sum-clear (fin false m e) h = unfold sum in round-clear binary64 (m * up e * 1 + 1 * 1 * down e) (down e * 1)
+sum-clear (fin true m e) h = difference-clear (m * up e * 1) (1 * 1 * down e) (down e * 1) h
 
 -- ---- the answers
 pub whole-plain : (x y : Float) → T (lt minusOne x) → isWhole x y ≡ true → Plain (whole x y)
