@@ -4,7 +4,7 @@ use mathlib.Core.Path.{_≡_, refl, sym, ap, ap₂, _∙_, subst}
 use mathlib.Core.Logic.{_⊎_, inl, inr}
 use mathlib.Core.Bool.{Bool, true, false, not, _&&_, _||_}
 use Prim.Native.Nat.{ℕ, zero, suc, _+_, _-_, _*_, _/_, _^_, _≤_, _<_}
-use native.Mathlib.Nat.{le-refl, le-trans, le-of-eq, le-antisymm, lt-of-le-of-lt, lt-of-lt-of-le, le-of-mul-le-mul-right, mul-comm, mul-assoc, mul-right-comm, mul-le-mul, mul-le-mul-right, mul-pos, add-mul, add-zero, zero-add, zero-mul}
+use native.Mathlib.Nat.{le-refl, le-trans, le-of-eq, le-antisymm, lt-of-le-of-lt, lt-of-lt-of-le, le-of-mul-le-mul-right, mul-comm, mul-assoc, mul-right-comm, mul-le-mul, mul-le-mul-right, mul-pos, add-mul, add-zero, zero-add, le-add-right, mul-mul-mul-comm, mul-lt-mul-of-pos-right, not-le-of-lt}
 use native.Mathlib.Omega.{arith}
 use lib.Dec.{T, leb, ltb, eqb, leb→le, ltb→lt, lt→ltb, nltb→le, lit≤, lit<}
 use lib.IntN.{ℤ}
@@ -15,21 +15,21 @@ use lib.Ieee.Scale.{finite}
 use Rattle.floats.specs.Operations.{_⊕_, _⊗_}
 use Rattle.floats.proofs.Laws.Place.{place-below, place-above}
 use Rattle.floats.proofs.Laws.Order.{bits-of-clear, under-zero}
-use Rattle.floats.proofs.Laws.Sums.{above, under, le-says, SizeAtMost}
+use Rattle.floats.proofs.Laws.Sums.{above, under, above-times, under-times, le-says, SizeAtMost}
 use Rattle.floats.proofs.Laws.Units.{exponent, in-units}
-use Rattle.bounds.proofs.Values.{perOne, perOne-pos, plus, less, mag, Number, cross, cross-under, joined, Along}
+use Rattle.bounds.proofs.Values.{perOne, perOne-pos, plus, less, mag, mag-of, Number, cross, cross-under, joined, Along}
 use Rattle.bounds.proofs.Operation.{limit, mul-near}
-use Rattle.bounds.proofs.Scales.{S, unit, one-is, Scale, Bound, Through, unit-left, ok, productK, mul-bound, add-bound}
+use Rattle.bounds.proofs.Scales.{S, S-pos, unit, one-is, Scale, Bound, Through, unit-left, ok, productK, mul-limit, mul-bound, add-bound}
 use Rattle.bounds.proofs.Distances.{Apart, apartK, add-apart, not-below}
 
 -- ---- the order
-pub le-units : {x y : Float} → Number x → Number y → T (le x y) → plus x + less y ≤ plus y + less x
+pub le-units : (x y : Float) → Number x → Number y → T (le x y) → plus x + less y ≤ plus y + less x
 unfolding perOne
-le-units {nan} {y} p q h = absurd (p .plain)
-le-units {inf s} {y} p q h = absurd (p .plain)
-le-units {fin s m e} {nan} p q h = absurd (q .plain)
-le-units {fin s m e} {inf t} p q h = absurd (q .plain)
-le-units {fin s m e} {fin t n d} p q h = go (in-units binary64 s m e (p .held)) (in-units binary64 t n d (q .held))
+le-units nan y p q h = absurd (p .plain)
+le-units (inf s) y p q h = absurd (p .plain)
+le-units (fin s m e) nan p q h = absurd (q .plain)
+le-units (fin s m e) (inf t) p q h = absurd (q .plain)
+le-units (fin s m e) (fin t n d) p q h = go (in-units binary64 s m e (p .held)) (in-units binary64 t n d (q .held))
   where
     X : ℕ
     X = m * 2 ^ exponent 1074 e
@@ -70,3 +70,137 @@ in-order false a true b h = subst (λ (k : ℕ). T (eqb k b && (false || eqb k 0
   where
     zeroes : (a b : ℕ) → a + b ≤ 0 + 0 → (a ≡ 0) × (b ≡ 0)
     zeroes a b h = (omega arith, omega arith)
+
+-- the two sides in units
+units-of : (s t : Bool) (a b i j X Y w : ℕ) → a * w ≡ X * i → b * w ≡ Y * j → (above s (a * j) + under t (b * i)) * w ≡ (above s X + under t Y) * (i * j)
+units-of s t a b i j X Y w e d =
+    ap₂ (λ (x y : ℕ). (x + y) * w) (above-times s a j) (under-times t b i) ∙ joined (above s a) (under t b) i j (above s X) (under t Y) w (cross s a X i w e) (cross-under t b Y j w d)
+
+pub le-of-units : (x y : Float) → Number x → Number y → plus x + less y ≤ plus y + less x → T (le x y)
+unfolding le perOne
+le-of-units nan y p q h = absurd (p .plain)
+le-of-units (inf s) y p q h = absurd (p .plain)
+le-of-units (fin s m e) nan p q h = absurd (q .plain)
+le-of-units (fin s m e) (inf t) p q h = absurd (q .plain)
+le-of-units (fin s m e) (fin t n d) p q h = go (in-units binary64 s m e (p .held)) (in-units binary64 t n d (q .held))
+  where
+    X : ℕ
+    X = m * 2 ^ exponent 1074 e
+
+    Y : ℕ
+    Y = n * 2 ^ exponent 1074 d
+
+    go : m * up e * 2 ^ 1074 ≡ X * down e → n * up d * 2 ^ 1074 ≡ Y * down d → T (below s (m * up e * down d) t (n * up d * down e) || level s (m * up e * down d) t (n * up d * down e))
+    go i j =
+        let l = units-of s t (m * up e) (n * up d) (down e) (down d) X Y (2 ^ 1074) i j in
+        let r = units-of t s (n * up d) (m * up e) (down d) (down e) Y X (2 ^ 1074) j i ∙ ap (λ (z : ℕ). (above t Y + under s X) * z) (mul-comm (down d) (down e)) in
+        in-order s (m * up e * down d) t (n * up d * down e)
+        (le-of-mul-le-mul-right (le-trans (le-of-eq l) (le-trans (mul-le-mul-right (down e * down d) h) (le-of-eq (sym r)))) (pow-pos 1074))
+
+-- at most b in size, as a whole number
+pub size-in-units : (b : ℕ) (x : Float) → T (fits binary64 x) → SizeAtMost b x → Number x × (mag x ≤ b * perOne)
+unfolding perOne
+size-in-units b nan t h = absurd h
+size-in-units b (inf s) t h = absurd h
+size-in-units b (fin s m e) t h = (
+  record { held = t; plain = tt },
+  le-trans (le-of-eq (mag-of s (m * 2 ^ exponent 1074 e)))
+      (le-of-mul-le-mul-right (le-trans (le-of-eq (sym (in-units binary64 s m e t))) (le-trans (mul-le-mul-right (2 ^ 1074) h) (le-of-eq (mul-right-comm b (down e) (2 ^ 1074))))) (down-pos e)),
+)
+
+-- ---- from a to b on the scale of 1
+pub record Positive (a b : ℕ) (x : Float) : Type 0 where
+  pub number : Number x
+  pub clear : less x ≡ 0
+  pub least : a * S ≤ plus x
+  pub most : plus x ≤ b * S
+
+pub positive-bound : {a b : ℕ} {x : Float} → Positive a b x → Bound S b x
+positive-bound {a} {b} {x} p = record { scale = unit; number = p .number; size = subst (λ (k : ℕ). plus x + k ≤ b * S) (sym (p .clear)) (le-trans (le-of-eq (add-zero (plus x))) (p .most)) }
+
+-- near a value that is known
+pub positive-near : {a b K : ℕ} {x y : Float} → Number x → Apart S K x y → Positive a b y → T (ltb K a) → Positive (a - K) (b + K) x
+positive-near {a} {b} {K} {x} {y} n d p t =
+    let clear = not-below d (p .clear) (lt-of-lt-of-le (times K a (ltb→lt K a t)) (p .least)) in
+    let r = go (plus x) (less x) (plus y) (less y) (a * S) (b * S) (K * S) clear (p .clear) (p .least) (p .most) (d .over) (d .under) in
+    record { number = n; clear = clear; least = le-trans (taken a K S (ltb→lt K a t)) (r .0); most = le-trans (r .1) (le-of-eq (sym (add-mul b K S))) }
+  where
+    times : (k a : ℕ) → k < a → k * S < a * S
+    times k a h = mul-lt-mul-of-pos-right h S-pos
+
+    taken : (a k s : ℕ) → k < a → (a - k) * s ≤ a * s - k * s
+    taken a k s h = away ((a - k) * s) (k * s) (a * s) (sym (add-mul (a - k) k s) ∙ ap (λ (z : ℕ). z * s) (back a k h))
+      where
+        back : (a k : ℕ) → k < a → a - k + k ≡ a
+        back a k h = omega arith
+
+        away : (x y z : ℕ) → x + y ≡ z → x ≤ z - y
+        away x y z h = omega arith
+
+    go : (p n q m a b d : ℕ) → n ≡ 0 → m ≡ 0 → a ≤ q → q ≤ b → p + m ≤ n + q + d → q + n ≤ m + p + d → (a - d ≤ p) × (p ≤ b + d)
+    go p n q m a b d e f g h k l = (omega arith, omega arith)
+
+-- plus a value that is small beside it
+pub positive-add : {a b K : ℕ} {x y : Float} → Positive a b x → Bound S K y → T (ok (b + K)) → T (ltb (apartK b K) a) → Positive (a - apartK b K) (b + apartK b K) (x ⊕ y)
+positive-add p q t u = positive-near (add-bound (positive-bound p) q t .number) (add-apart (positive-bound p) q t) p u
+
+-- a product, from below: numbers a and c give e
+abbrev pub productFits : ℕ → ℕ → ℕ → Bool
+productFits a c e = leb (e * 2 ^ 106 + 2 ^ 105) (a * c * (2 ^ 53 - 1))
+
+pub positive-mul : {a b c d : ℕ} {x y : Float} (e : ℕ) → Positive a b x → Positive c d y → T (ok b) → T (ok d) → T (productFits a c e) → Positive e (productK b d) (x ⊗ y)
+positive-mul {a} {b} {c} {d} {x} {y} e p q k l t =
+    let P = positive-bound p in
+    let Q = positive-bound q in
+    let z = mul-bound (unit-left unit) P Q k l in
+    let n = mul-near (p .number) (q .number) (mul-limit (unit-left unit) P Q k l) in
+    let clear : less (x ⊗ y) ≡ 0 = sym (zero-add (less (x ⊗ y))) ∙ n .along false false (ap (λ (i : ℕ). 0 + i) (p .clear)) (ap (λ (i : ℕ). 0 + i) (q .clear)) in
+    let whole : mag (x ⊗ y) ≡ plus (x ⊗ y) = ap (λ (i : ℕ). plus (x ⊗ y) + i) clear ∙ add-zero (plus (x ⊗ y)) in
+    let X : a * S ≤ mag x = le-trans (p .least) (le-add-right (plus x) (less x)) in
+    let Y : c * S ≤ mag y = le-trans (q .least) (le-add-right (plus y) (less y)) in
+    let low = from-below a c e (mag (x ⊗ y)) (mag x * mag y) S S-pos (leb→le (e * 2 ^ 106 + 2 ^ 105) (a * c * (2 ^ 53 - 1)) t)
+    (le-trans (le-of-eq (mul-mul-mul-comm a c S S)) (mul-le-mul X Y)) (subst (λ (w : ℕ). mag x * mag y * 2 ^ 53 ≤ mag (x ⊗ y) * w * 2 ^ 53 + mag x * mag y + w * 2 ^ 52) one-is (n .least)) in
+    record { number = z .number; clear = clear; least = le-trans low (le-of-eq whole); most = le-trans (le-of-eq (sym whole)) (z .size) }
+  where
+    from-below : (a c e m w s : ℕ) → 0 < s → e * 2 ^ 106 + 2 ^ 105 ≤ a * c * (2 ^ 53 - 1) → a * c * (s * s) ≤ w → w * 2 ^ 53 ≤ m * (s * 2 ^ 53) * 2 ^ 53 + w + s * 2 ^ 53 * 2 ^ 52 → e * s ≤ m
+    from-below a c e m w s s0 f g h =
+        let big : a * c * (2 ^ 53 - 1) * s * s ≤ (m * 2 ^ 106 + 2 ^ 105) * s = second (a * c) m w s g (first m w s h) in
+        let one : a * c * (2 ^ 53 - 1) * s ≤ m * 2 ^ 106 + 2 ^ 105 = le-of-mul-le-mul-right big s0 in
+        third (e * s) m s s0 (le-trans (le-of-eq (spread e s)) (le-trans (mul-le-mul-right s f) one))
+      where
+        first : (m w s : ℕ) → w * 2 ^ 53 ≤ m * (s * 2 ^ 53) * 2 ^ 53 + w + s * 2 ^ 53 * 2 ^ 52 → w * (2 ^ 53 - 1) ≤ m * s * 2 ^ 106 + s * 2 ^ 105
+        first m w s h = omega arith
+
+        second : (k m w s : ℕ) → k * (s * s) ≤ w → w * (2 ^ 53 - 1) ≤ m * s * 2 ^ 106 + s * 2 ^ 105 → k * (2 ^ 53 - 1) * s * s ≤ (m * 2 ^ 106 + 2 ^ 105) * s
+        second k m w s g h = omega arith
+
+        spread : (e s : ℕ) → e * s * 2 ^ 106 + s * 2 ^ 105 ≡ (e * 2 ^ 106 + 2 ^ 105) * s
+        spread e s = omega arith
+
+        third : (x m s : ℕ) → 0 < s → x * 2 ^ 106 + s * 2 ^ 105 ≤ m * 2 ^ 106 + 2 ^ 105 → x ≤ m
+        third x m s s0 h = omega arith
+
+no-size : 2 ^ 33 * S ≤ 0 → ⊥
+unfolding S
+no-size h = not-le-of-lt (lit< tt) h
+
+low-end : (X : ℕ) → 2 ^ 33 * S ≤ X → 2 ^ (53 - 1 + 1002) ≤ X
+unfolding S
+low-end X h = le-trans (lit≤ tt) h
+
+high-end : (X : ℕ) → X ≤ 2 ^ 73 * S → X < 2 ^ (53 - 1 + 1044)
+unfolding S
+high-end X h = lt-of-le-of-lt h (lit< tt)
+
+-- ---- the pattern of what is from 2^-20 to 2^20 in size: its exponent's field is from 1003 to 1043
+pub positive-bits : {a b : ℕ} {x : Float} → Positive a b x → T (leb (2 ^ 33) a) → T (leb b (2 ^ 73)) → (1003 * 2 ^ 52 ≤ toBits binary64 x) × (toBits binary64 x < 1045 * 2 ^ 52)
+positive-bits {a} {b} {x} p u v = go x (p .number) (p .clear) (le-trans (mul-le-mul-right S (leb→le (2 ^ 33) a u)) (p .least)) (le-trans (p .most) (mul-le-mul-right S (leb→le b (2 ^ 73) v)))
+  where
+    go : (x : Float) → Number x → less x ≡ 0 → 2 ^ 33 * S ≤ plus x → plus x ≤ 2 ^ 73 * S → (1003 * 2 ^ 52 ≤ toBits binary64 x) × (toBits binary64 x < 1045 * 2 ^ 52)
+    go nan n c l m = absurd (n .plain)
+    go (inf s) n c l m = absurd (n .plain)
+    go (fin true k e) n c l m = absurd (no-size l)
+    go (fin false k e) n c l m =
+        let bits = bits-of-clear binary64 k e (n .held) in
+        let X = k * 2 ^ exponent 1074 e in
+        (le-trans (place-above 53 1002 X (lit< tt) (low-end X l)) (le-of-eq (sym bits)), lt-of-le-of-lt (le-of-eq bits) (place-below 53 1044 X (lit< tt) (high-end X m)))

@@ -24,7 +24,7 @@ use Rattle.bounds.proofs.Products.{Dekker, dekker-near}
 unfoldable pub S : ℕ
 S = 2 ^ 1021
 
-S-pos : 0 < S
+pub S-pos : 0 < S
 unfolding S
 S-pos = pow-pos 1021
 
@@ -178,10 +178,13 @@ product-limit K L π k l h = le-trans (mul-le-mul-right 16 (add-le-add (mul-le-m
 within-limit : (k w L m : ℕ) → m ≤ k → (k + w) * 16 ≤ L → (m ≤ L) × ((m + w) * 16 ≤ L)
 within-limit k w L m h g = (omega arith, omega arith)
 
+pub mul-limit : {μ ν π K L : ℕ} {x y : Float} → Through μ ν π → Bound μ K x → Bound ν L y → T (ok K) → T (ok L) → mag x * mag y ≤ limit * perOne
+mul-limit {μ} {ν} {π} {K} {L} {x} {y} t p q k l = within-limit (K * L * (S * π)) perOne (limit * perOne) (mag x * mag y) (sizes t p q) (product-limit K L π k l (t .scale .bounded)) .0
+
 pub mul-bound : {μ ν π K L : ℕ} {x y : Float} → Through μ ν π → Bound μ K x → Bound ν L y → T (ok K) → T (ok L) → Bound π (productK K L) (x ⊗ y)
 mul-bound {μ} {ν} {π} {K} {L} {x} {y} t p q k l =
     let w = sizes t p q in
-    let r = mul-near (p .number) (q .number) (within-limit (K * L * (S * π)) perOne (limit * perOne) (mag x * mag y) w (product-limit K L π k l (t .scale .bounded)) .0) in
+    let r = mul-near (p .number) (q .number) (mul-limit t p q k l) in
     record {
       scale = t .scale;
       number = r .number;

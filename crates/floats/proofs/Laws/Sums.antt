@@ -100,11 +100,11 @@ in-order true a true b h = go (or-split (ltb b a) (level true a true b) h)
 in-order true a false b h = omega arith
 in-order false a true b h = omega (arith, eqb→eq a b (and-l (eqb a b) (eqb a 0) h), eqb→eq a 0 (and-r (eqb a b) (eqb a 0) h))
 
-above-times : (s : Bool) (a k : ℕ) → above s (a * k) ≡ above s a * k
+pub above-times : (s : Bool) (a k : ℕ) → above s (a * k) ≡ above s a * k
 above-times false a k = refl
 above-times true a k = sym (zero-mul k)
 
-under-times : (s : Bool) (a k : ℕ) → under s (a * k) ≡ under s a * k
+pub under-times : (s : Bool) (a k : ℕ) → under s (a * k) ≡ under s a * k
 under-times false a k = sym (zero-mul k)
 under-times true a k = refl
 
