@@ -4,3 +4,5 @@ pub mod RuleValues
 pub mod WholeValues
 pub mod TableValues
 pub mod Signs
+pub mod Coefficients
+pub mod ExpSize

@@ -6,7 +6,7 @@ use mathlib.Core.Bool.{Bool, true, false, not, _&&_, _||_}
 use Prim.Native.Nat.{ℕ, zero, suc, _+_, _-_, _*_, _/_, _^_, _≤_, _<_}
 use native.Mathlib.Nat.{le-refl, le-trans, le-of-eq, le-antisymm, lt-of-le-of-lt, lt-of-lt-of-le, le-of-mul-le-mul-right, mul-comm, mul-assoc, mul-right-comm, mul-le-mul, mul-le-mul-right, mul-pos, add-mul, add-zero, zero-add, le-add-right, mul-mul-mul-comm, mul-lt-mul-of-pos-right, not-le-of-lt}
 use native.Mathlib.Omega.{arith}
-use lib.Dec.{T, leb, ltb, eqb, leb→le, ltb→lt, lt→ltb, nltb→le, lit≤, lit<}
+use lib.Dec.{T, leb, ltb, eqb, leb→le, ltb→lt, nltb→le, eqb→eq, lit≤, lit<}
 use lib.IntN.{ℤ}
 use lib.Pow.{pow-pos}
 use lib.Ieee.{Float, nan, inf, fin, binary64, prec, low, up, down, le, below, level, fits, toBits}
@@ -19,7 +19,7 @@ use Rattle.floats.proofs.Laws.Sums.{above, under, above-times, under-times, le-
 use Rattle.floats.proofs.Laws.Units.{exponent, in-units}
 use Rattle.bounds.proofs.Values.{perOne, perOne-pos, plus, less, mag, mag-of, Number, cross, cross-under, joined, Along}
 use Rattle.bounds.proofs.Operation.{limit, mul-near}
-use Rattle.bounds.proofs.Scales.{S, S-pos, unit, one-is, Scale, Bound, Through, unit-left, ok, productK, mul-limit, mul-bound, add-bound}
+use Rattle.bounds.proofs.Scales.{S, S-pos, unit, one-is, Scale, Bound, within, tested, Through, unit-left, ok, productK, mul-limit, mul-bound, add-bound}
 use Rattle.bounds.proofs.Distances.{Apart, apartK, add-apart, not-below}
 
 -- ---- the order
@@ -204,3 +204,28 @@ positive-bits {a} {b} {x} p u v = go x (p .number) (p .clear) (le-trans (mul-le-
         let bits = bits-of-clear binary64 k e (n .held) in
         let X = k * 2 ^ exponent 1074 e in
         (le-trans (place-above 53 1002 X (lit< tt) (low-end X l)) (le-of-eq (sym bits)), lt-of-le-of-lt (le-of-eq bits) (place-below 53 1044 X (lit< tt) (high-end X m)))
+
+-- ---- a positive value that is known, by computing
+abbrev pub between : ℕ → ℕ → Float → Bool
+between a b x = within b x && eqb (less x) 0 && leb (a * 2 ^ 1021) (plus x)
+
+pub tested-positive : (a b : ℕ) (x : Float) → T (between a b x) → Positive a b x
+unfolding S
+tested-positive a b x t =
+    let h = and-l (within b x && eqb (less x) 0) (leb (a * 2 ^ 1021) (plus x)) t in
+    let bound = tested b x (and-l (within b x) (eqb (less x) 0) h) in
+    record {
+      number = bound .number;
+      clear = eqb→eq (less x) 0 (and-r (within b x) (eqb (less x) 0) h);
+      least = leb→le (a * 2 ^ 1021) (plus x) (and-r (within b x && eqb (less x) 0) (leb (a * 2 ^ 1021) (plus x)) t);
+      most = le-trans (le-add-right (plus x) (less x)) (bound .size);
+    }
+
+-- a wider range
+pub positive-at : {a b : ℕ} {x : Float} (c d : ℕ) → Positive a b x → T (leb c a) → T (leb b d) → Positive c d x
+positive-at {a} {b} c d p t u = record {
+  number = p .number;
+  clear = p .clear;
+  least = le-trans (mul-le-mul-right S (leb→le c a t)) (p .least);
+  most = le-trans (p .most) (mul-le-mul-right S (leb→le b d u));
+}

@@ -326,3 +326,17 @@ fmla-bound {μ} {ν} {π} {K} {L} {C} {x} {y} {c} t p q r g =
     let m = dekker-bounds t p q (o .0) (o .1) in
     let s = full-bounds (m .hi) r (o .2) in
     add-bound (add-bound (m .lo) (s .lo) (o .3)) (s .hi) (o .4)
+
+-- ---- a value that is known, by computing
+abbrev pub within : ℕ → Float → Bool
+within K x = fits binary64 x && finite x && leb (mag x) (K * 2 ^ 1021)
+
+pub tested : (K : ℕ) (x : Float) → T (within K x) → Bound S K x
+unfolding S
+tested K x t =
+    let h = and-l (fits binary64 x && finite x) (leb (mag x) (K * 2 ^ 1021)) t in
+    record {
+      scale = unit;
+      number = record { held = and-l (fits binary64 x) (finite x) h; plain = and-r (fits binary64 x) (finite x) h };
+      size = leb→le (mag x) (K * 2 ^ 1021) (and-r (fits binary64 x && finite x) (leb (mag x) (K * 2 ^ 1021)) t);
+    }
