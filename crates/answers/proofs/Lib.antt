@@ -1,1 +1,3 @@
 -- The theorems, and the laws under them.
+pub mod Factors
+pub mod Within
