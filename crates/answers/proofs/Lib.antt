@@ -1,3 +1,4 @@
 -- The theorems, and the laws under them.
 pub mod Factors
 pub mod Within
+pub mod Squared
