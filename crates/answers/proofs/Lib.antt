@@ -2,3 +2,4 @@
 pub mod Factors
 pub mod Within
 pub mod Squared
+pub mod Ends

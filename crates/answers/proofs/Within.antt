@@ -2,13 +2,12 @@
 -- both and one more (`times`), and so has a reciprocal (`reciprocal`). Up to 33 factors the range of the fraction is that of the value but for a
 -- little (`not-over`, `not-under`). Assumes nothing.
 use mathlib.Core.Path.{_≡_, refl, sym, ap, ap₂, _∙_, subst, subst₂}
-use mathlib.Core.Bool.{Bool, true, false, cond}
+use mathlib.Core.Bool.{Bool, true, false, not}
 use Prim.Native.Nat.{ℕ, zero, suc, _+_, _-_, _*_, _^_, _≤_, _<_}
-use native.Mathlib.Nat.{le-trans, le-of-eq, lt-of-lt-of-le, lt-of-le-of-lt, mul-pos, mul-le-mul-left, mul-le-mul-right, mul-lt-mul-of-pos-left, le-of-mul-le-mul-right, lt-of-mul-lt-mul-right}
+use native.Mathlib.Nat.{le-trans, le-of-eq, not-le-of-lt, mul-pos, mul-one, one-mul, zero-mul, mul-comm, mul-assoc, one-le-pow, mul-le-mul-left, mul-le-mul-right, mul-lt-mul-of-pos-left, le-of-mul-le-mul-right, lt-of-mul-lt-mul-right}
 use native.Mathlib.Omega.{arith}
-use lib.Dec.{T, eqb, lit≤, lit<}
-use lib.IntN.{ℤ, pos}
-use lib.Pow.{pow-pos}
+use lib.Dec.{T, eqb, leb, leb→le, nleb→lt, eqb·suc-zero, lit≤, lit<}
+use lib.IntN.{ℤ}
 use lib.Ieee.{Float, nan, inf, fin, binary64, up, down, round, mul, div}
 use lib.Ieee.Exact.{HasValue}
 use lib.Ieee.Fits.{down-pos}
@@ -16,6 +15,7 @@ use Rattle.floats.specs.Operations.{_⊗_, _⊘_}
 use Rattle.floats.proofs.Laws.Overflow.{halfway, round-stays}
 use Rattle.floats.proofs.Laws.Rounding.{relative-error}
 use Rattle.compound.specs.Special.{one}
+use Rattle.compound.proofs.Tests.{second}
 use Rattle.answers.proofs.Factors.{Close, turned, joined, product, looser}
 
 -- one factor of f64
@@ -117,3 +117,50 @@ times {n} {m} {A} {C} {B} {D} {x} {y} l r v w =
     (not-under (r .top) (r .at-least) near33)
     (not-over (r .bottom) positive (r .at-most) near33)
     (product (v .close) (w .close)))
+
+-- what is near to a fraction above 0 is above 0
+some : (v x y : ℕ) → 0 < x → x ≤ v * y → 0 < v
+some zero x y h l = omega arith
+some (suc v) x y h l = omega arith
+
+pub positive : {n A C : ℕ} {x : Float} → 0 < A → (w : Within n A C x) → 0 < w .digits * up (w .exponent)
+positive {n} {A} {C} h w =
+    some (w .digits * up (w .exponent)) (A * down (w .exponent) * near ^ n) (C * full ^ n) (mul-pos (mul-pos h (down-pos (w .exponent))) (one-le-pow n near (lit< tt)))
+    (le-trans (w .close .below) (le-of-eq (mul-assoc (w .digits * up (w .exponent)) C (full ^ n))))
+
+-- one over a value above 0 is the turned fraction, rounded
+one-over : (m : ℕ) (e : ℤ) → 0 < m * up e → one ⊘ fin false m e ≡ round binary64 false (down e) (m * up e)
+unfolding div
+one-over zero e h = absurd (not-le-of-lt h (le-of-eq (zero-mul (up e))))
+one-over (suc m) e h =
+    sym (second (eqb (suc m) 0) (inf false) (round binary64 false (1 * down e) (suc m * up e * 1)) (eqb·suc-zero m))
+    ∙ ap₂ (round binary64 false) (one-mul (down e)) (mul-one (suc m * up e))
+
+-- the reciprocal x of what is near to A / C: in the normal range it is near to C / A, and else it is below 2^-1022
+pub data Reciprocal (n A C : ℕ) (x : Float) : Type 0 where
+  normal : Within (1 + n) C A x → Reciprocal n A C x
+  small : (a c : ℕ) → 0 < a → 0 < c → Close near full n a c A C → c * 2 ^ 1074 < 2 ^ 52 * a → x ≡ round binary64 false c a → Reciprocal n A C x
+
+pub reciprocal : {n A C : ℕ} {x : Float} → n ≤ 33 → Room A C → Within n A C x → Reciprocal n A C (one ⊘ x)
+reciprocal {n} {A} {C} {x} l r w = go (leb (2 ^ 52 * a) (c * 2 ^ 1074)) (leb→le (2 ^ 52 * a) (c * 2 ^ 1074)) (nleb→lt (2 ^ 52 * a) (c * 2 ^ 1074))
+  where
+    a : ℕ
+    a = w .digits * up (w .exponent)
+
+    c : ℕ
+    c = down (w .exponent)
+
+    some : 0 < a
+    some = positive (r .top) w
+
+    is : one ⊘ x ≡ round binary64 false c a
+    is = ap (λ (y : Float). one ⊘ y) (w .is) ∙ one-over (w .digits) (w .exponent) some
+
+    within-range : C ≤ (2 ^ 64 - 2 ^ 39) ^ 16 * A
+    within-range = le-trans (r .at-least) (le-trans (le-of-eq (mul-comm A (2 ^ 384))) (mul-le-mul-right A (lit≤ tt)))
+
+    go : (b : Bool) → (T b → 2 ^ 52 * a ≤ c * 2 ^ 1074) → (T (not b) → c * 2 ^ 1074 < 2 ^ 52 * a) → Reciprocal n A C (one ⊘ x)
+    go true h k =
+        normal (subst (Within (1 + n) C A) (sym is)
+        (rounded-near c a some (h tt) (not-over (r .top) some within-range (looser 33 (lit≤ tt) l (turned (w .close)))) (turned (w .close))))
+    go false h k = small a c some (down-pos (w .exponent)) (w .close) (k tt) is
