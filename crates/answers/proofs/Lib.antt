@@ -3,3 +3,4 @@ pub mod Factors
 pub mod Within
 pub mod Squared
 pub mod Ends
+pub mod OnePlus
