@@ -4,3 +4,4 @@ pub mod Within
 pub mod Squared
 pub mod Ends
 pub mod OnePlus
+pub mod WholeBound
