@@ -2,13 +2,13 @@
 -- (`between`), they are both 0 where the reciprocal leaves the normal range of f64 (`both-zero`), and 1 lies between them where E is within 16 factors
 -- (2^29 - 1) / 2^29 of 1 (`around-one`). Assumes nothing.
 use mathlib.Core.Path.{_≡_, refl, sym, ap, _∙_, subst}
-use mathlib.Core.Bool.{Bool, true, false}
+use mathlib.Core.Bool.{true, false}
 use Prim.Native.Nat.{ℕ, _+_, _-_, _*_, _^_, _≤_, _<_}
 use native.Mathlib.Nat.{le-antisymm, le-trans, le-of-lt, le-of-eq, one-mul, mul-pos, mul-le-mul-left, mul-le-mul-right, le-of-mul-le-mul-right}
 use native.Mathlib.Omega.{arith}
 use lib.Dec.{T, lit≤, lit<}
-use lib.IntN.{ℤ, pos, negsuc}
-use lib.Ieee.{Float, nan, inf, fin, binary32, binary64, up, down, round, lt, le, eq, fits, toBits, ofBits}
+use lib.IntN.{negsuc}
+use lib.Ieee.{Float, nan, inf, fin, binary32, binary64, up, down, round, lt, le, eq, fits, ofBits}
 use lib.Ieee.Bits.{ofBits-toBits}
 use lib.Ieee.Fits.{down-pos, round-fits}
 use lib.Ieee.Order.{round-mono}
@@ -18,7 +18,7 @@ use Rattle.floats.proofs.Laws.Order.{clear, pattern-mono, round-clear, round-at
 use Rattle.compound.specs.Special as Special
 use Rattle.answers.specs.Exact.{Fraction}
 use Rattle.answers.specs.Claims.{Near}
-use Rattle.answers.proofs.Factors.{Close, looser}
+use Rattle.answers.proofs.Factors.{Close}
 use Rattle.answers.proofs.Within.{near, full, Within}
 
 -- ---- within 33 factors

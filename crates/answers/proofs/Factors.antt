@@ -3,7 +3,7 @@
 -- Assumes nothing.
 use mathlib.Core.Path.{_≡_, sym, ap, _∙_, subst}
 use Prim.Native.Nat.{ℕ, zero, suc, _+_, _-_, _*_, _^_, _≤_, _<_}
-use native.Mathlib.Nat.{le-refl, le-trans, le-of-eq, mul-comm, mul-one, mul-le-mul, mul-le-mul-left, mul-le-mul-right, le-of-mul-le-mul-right, pow-le-pow-left, pow-zero, pow-suc, mul-mul-mul-comm}
+use native.Mathlib.Nat.{le-refl, mul-comm, mul-le-mul, mul-le-mul-right, le-of-mul-le-mul-right, pow-le-pow-left, pow-zero, pow-suc, mul-mul-mul-comm}
 use native.Mathlib.Numerals.{add-one}
 use native.Mathlib.Omega.{arith}
 use lib.Pow.{pow-add}

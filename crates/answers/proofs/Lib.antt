@@ -4,4 +4,5 @@ pub mod Within
 pub mod Squared
 pub mod Ends
 pub mod OnePlus
+pub mod Asked
 pub mod WholeBound

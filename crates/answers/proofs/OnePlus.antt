@@ -8,7 +8,7 @@ use native.Mathlib.Omega.{arith}
 use lib.Dec.{T, leb, ltb, leb→le, nleb→lt, ltb→lt, lit≤, lit<}
 use lib.IntN.{ℤ, pos, negsuc}
 use lib.Pow.{pow-add, pow-pos, pow-mono}
-use lib.Ieee.{Float, fin, binary32, binary64, up, down, round, sum, add, lt, le, fits}
+use lib.Ieee.{fin, binary32, binary64, up, down, round, sum, add, lt, le, fits}
 use lib.Ieee.Bits.{is-true}
 use lib.Ieee.Fits.{down-pos}
 use Rattle.floats.specs.Operations.{_⊕_}

@@ -3,17 +3,16 @@
 use mathlib.Core.Path.{_≡_, refl, sym, ap, _∙_, subst}
 use mathlib.Core.Bool.{Bool, true, false, cond}
 use Prim.Native.Nat.{ℕ, zero, suc, _+_, _-_, _*_, _/_, _%_, _^_, _≤_, _<_}
-use native.Mathlib.Nat.{le-trans, le-of-eq, lt-of-lt-of-le, one-mul, mul-le-mul-left, mul-le-mul-right, le-mul-of-pos-right, pow-le-pow-left, pow-le-pow-right, one-le-pow, pow-zero, pow-suc, pow-succ'}
+use native.Mathlib.Nat.{le-trans, le-of-eq, one-mul, mul-le-mul-right, le-mul-of-pos-right, pow-le-pow-left, pow-le-pow-right, one-le-pow, pow-zero, pow-suc, pow-succ'}
 use native.Mathlib.Omega.{arith}
 use borrow.Author.Tests.{leb-true, leb-false, eqb-true, eqb-false}
 use lib.Dec.{eqb, leb, lit≤, lit<}
 use lib.IntN.{pos}
 use lib.Pow.{pow-add}
-use lib.Ieee.{Float, fin}
+use lib.Ieee.{Float}
 use Rattle.floats.specs.Operations.{_⊗_}
 use Rattle.compound.specs.Special.{one}
 use Rattle.compound.specs.Whole.{squarings, power}
-use Rattle.compound.proofs.Tests.{first, second}
 use Rattle.answers.proofs.Factors.{equal, power-of-product}
 use Rattle.answers.proofs.Within.{near, full, Within, Room, within-more, times}
 
