@@ -1,6 +1,6 @@
--- The two ends of the bound: E × (1 - 2^-47) and E × (1 + 2^-47), rounded to f32. What is within 33 factors of E lies between them once narrowed
--- (`between`), they are both 0 where the reciprocal leaves the normal range of f64 (`both-zero`), and 1 lies between them where E is within 16 factors
--- (2^29 - 1) / 2^29 of 1 (`around-one`). Assumes nothing.
+-- The two ends of the bound: E × (1 - 2^-k) and E × (1 + 2^-k), rounded to f32, for a k that is not too large (`Fine`). What is within 33 factors of E
+-- lies between them once narrowed (`between`), so does 0 where the reciprocal leaves the normal range of f64 (`around-zero`), and so does 1 where E is
+-- within 16 factors (2^29 - 1) / 2^29 of 1 (`around-one`). Assumes nothing.
 use mathlib.Core.Path.{_≡_, refl, sym, ap, _∙_, subst}
 use mathlib.Core.Bool.{true, false}
 use Prim.Native.Nat.{ℕ, _+_, _-_, _*_, _^_, _≤_, _<_}
@@ -8,6 +8,7 @@ use native.Mathlib.Nat.{le-antisymm, le-trans, le-of-lt, le-of-eq, one-mul, mul-
 use native.Mathlib.Omega.{arith}
 use lib.Dec.{T, lit≤, lit<}
 use lib.IntN.{negsuc}
+use lib.Pow.{pow-pos}
 use lib.Ieee.{Float, nan, inf, fin, binary32, binary64, up, down, round, lt, le, eq, fits, ofBits}
 use lib.Ieee.Bits.{ofBits-toBits}
 use lib.Ieee.Fits.{down-pos, round-fits}
@@ -20,6 +21,15 @@ use Rattle.answers.specs.Exact.{Fraction}
 use Rattle.answers.specs.Claims.{Near}
 use Rattle.answers.proofs.Factors.{Close}
 use Rattle.answers.proofs.Within.{near, full, Within}
+
+-- what is asked of k: 33 factors change a fraction by no more than 2^-k of it, even in front of 2^-1022 it is far below half of f32's smallest value,
+-- and with 16 factors (2^29 - 1) / 2^29 it is no further from 1 than 1 ± 2^-25, which round to 1
+pub record Fine (k : ℕ) : Type 0 where
+  pub lower : (2 ^ k - 1) * full ^ 33 ≤ 2 ^ k * near ^ 33
+  pub upper : 2 ^ k * full ^ 33 ≤ (2 ^ k + 1) * near ^ 33
+  pub zero : 2 ^ 52 * full ^ 33 * (2 ^ k - 1) * 2 ^ 150 ≤ 2 ^ k * near ^ 33 * 2 ^ 1074
+  pub lower-one : (2 ^ k - 1) * 2 ^ 25 * (2 ^ 29) ^ 16 ≤ (2 ^ 25 + 1) * 2 ^ k * (2 ^ 29 - 1) ^ 16
+  pub upper-one : (2 ^ 25 - 1) * 2 ^ k * (2 ^ 29) ^ 16 ≤ (2 ^ k + 1) * 2 ^ 25 * (2 ^ 29 - 1) ^ 16
 
 -- ---- within 33 factors
 lower-end : (A C a c i I u U : ℕ) → 0 < I → u * I ≤ U * i → A * c * i ≤ a * C * I → A * u * c ≤ a * (C * U)
@@ -34,16 +44,16 @@ upper-end A C a c i I u U P l h =
     let y : a * C * i * U ≤ A * c * I * U = mul-le-mul-right U h in
     le-of-mul-le-mul-right {k = i} (omega arith) P
 
-pub between : (E : Fraction) (v : Float) → 0 < E .bottom → Within 33 (E .top) (E .bottom) v → Near 47 E (narrowed v)
+pub between : {k : ℕ} → Fine k → (E : Fraction) (v : Float) → 0 < E .bottom → Within 33 (E .top) (E .bottom) v → Near k E (narrowed v)
 unfolding Near nearestF32 narrowed
-between E v P w =
+between {k} fine E v P w =
     let a = w .digits * up (w .exponent) in
     let c = down (w .exponent) in
-    subst (Near 47 E) (sym (ap narrowed (w .is))) (
-      round-mono binary32 (E .top * (2 ^ 47 - 1)) (E .bottom * 2 ^ 47) a c (mul-pos P (lit< tt)) (down-pos (w .exponent))
-          (lower-end (E .top) (E .bottom) a c (near ^ 33) (full ^ 33) (2 ^ 47 - 1) (2 ^ 47) (lit< tt) (lit≤ tt) (w .close .below)),
-      round-mono binary32 a c (E .top * (2 ^ 47 + 1)) (E .bottom * 2 ^ 47) (down-pos (w .exponent)) (mul-pos P (lit< tt))
-          (upper-end (E .top) (E .bottom) a c (near ^ 33) (full ^ 33) (2 ^ 47 + 1) (2 ^ 47) (lit< tt) (lit≤ tt) (w .close .above)),
+    subst (Near k E) (sym (ap narrowed (w .is))) (
+      round-mono binary32 (E .top * (2 ^ k - 1)) (E .bottom * 2 ^ k) a c (mul-pos P (pow-pos k)) (down-pos (w .exponent))
+          (lower-end (E .top) (E .bottom) a c (near ^ 33) (full ^ 33) (2 ^ k - 1) (2 ^ k) (lit< tt) (fine .lower) (w .close .below)),
+      round-mono binary32 a c (E .top * (2 ^ k + 1)) (E .bottom * 2 ^ k) (down-pos (w .exponent)) (mul-pos P (pow-pos k))
+          (upper-end (E .top) (E .bottom) a c (near ^ 33) (full ^ 33) (2 ^ k + 1) (2 ^ k) (lit< tt) (fine .upper) (w .close .above)),
     )
 
 -- ---- zero
@@ -91,23 +101,23 @@ lower-zero a c A C i I u U L M N P Q l g h =
     le-of-mul-le-mul-right {k = i * L} (omega arith) Q
 
 -- E is near to c / a, which is below 2^-1022
-pub both-zero : (E : Fraction) (a c : ℕ) (v : Float) → 0 < E .bottom → 0 < a → 0 < c → Close near full 33 a c (E .bottom) (E .top) → c * 2 ^ 1074 < 2 ^ 52 * a → v ≡ round binary64 false c a
-    → Near 47 E (narrowed v)
+pub around-zero : {k : ℕ} → Fine k → (E : Fraction) (a c : ℕ) (v : Float) → 0 < E .bottom → 0 < a → 0 < c → Close near full 33 a c (E .bottom) (E .top) → c * 2 ^ 1074 < 2 ^ 52 * a
+    → v ≡ round binary64 false c a → Near k E (narrowed v)
 unfolding Near nearestF32 fits le
-both-zero E a c v P A C w h e =
-    subst (Near 47 E) (sym (ap narrowed e ∙ narrow-zero (round binary64 false c a) (round-clear binary64 c a) small)) (
-      subst (λ (x : Float). T (le x Special.zero)) (sym (vanishes (E .top * (2 ^ 47 - 1)) (E .bottom * 2 ^ 47) bottom low)) tt,
-      from-zero (E .top * (2 ^ 47 + 1)) (E .bottom * 2 ^ 47) bottom,
+around-zero {k} fine E a c v P A C w h e =
+    subst (Near k E) (sym (ap narrowed e ∙ narrow-zero (round binary64 false c a) (round-clear binary64 c a) small)) (
+      subst (λ (x : Float). T (le x Special.zero)) (sym (vanishes (E .top * (2 ^ k - 1)) (E .bottom * 2 ^ k) bottom low)) tt,
+      from-zero (E .top * (2 ^ k + 1)) (E .bottom * 2 ^ k) bottom,
     )
   where
-    bottom : 0 < E .bottom * 2 ^ 47
-    bottom = mul-pos P (lit< tt)
+    bottom : 0 < E .bottom * 2 ^ k
+    bottom = mul-pos P (pow-pos k)
 
     small : T (le (round binary64 false c a) (fin false 1 (negsuc 1021)))
     small = round-at-most binary64 (fin false 1 (negsuc 1021)) c a 1 (2 ^ 1022) A (lit< tt) tt (refl, refl) (lowest a c (2 ^ 1022) (2 ^ 1074) (2 ^ 52) (lit< tt) refl h)
 
-    low : E .top * (2 ^ 47 - 1) * 2 ^ 150 ≤ E .bottom * 2 ^ 47
-    low = lower-zero a c (E .bottom) (E .top) (near ^ 33) (full ^ 33) (2 ^ 47 - 1) (2 ^ 47) (2 ^ 1074) (2 ^ 52) (2 ^ 150) C (lit< tt) (lit≤ tt) h (w .above)
+    low : E .top * (2 ^ k - 1) * 2 ^ 150 ≤ E .bottom * 2 ^ k
+    low = lower-zero a c (E .bottom) (E .top) (near ^ 33) (full ^ 33) (2 ^ k - 1) (2 ^ k) (2 ^ 1074) (2 ^ 52) (2 ^ 150) C (lit< tt) (fine .zero) h (w .above)
 
 -- ---- one
 -- the last fraction below 1 and above it that round to 1 are 1 ± 2^-25 or further out
@@ -123,11 +133,11 @@ over-one A C k K u U w W P l h =
     let y : C * (W * U * K) ≤ C * (u * w * k) = mul-le-mul-left C l in
     le-of-mul-le-mul-right {k = K} (omega arith) P
 
-pub around-one : (E : Fraction) → 0 < E .bottom → Close (2 ^ 29 - 1) (2 ^ 29) 16 (E .top) (E .bottom) 1 1 → Near 47 E Special.one
+pub around-one : {k : ℕ} → Fine k → (E : Fraction) → 0 < E .bottom → Close (2 ^ 29 - 1) (2 ^ 29) 16 (E .top) (E .bottom) 1 1 → Near k E Special.one
 unfolding Near nearestF32 round
-around-one E P h = (
-  round-mono binary32 (E .top * (2 ^ 47 - 1)) (E .bottom * 2 ^ 47) (2 ^ 25 + 1) (2 ^ 25) (mul-pos P (lit< tt)) (lit< tt)
-      (under-one (E .top) (E .bottom) ((2 ^ 29 - 1) ^ 16) ((2 ^ 29) ^ 16) (2 ^ 47 - 1) (2 ^ 47) (2 ^ 25) (2 ^ 25 + 1) (lit< tt) (lit≤ tt) (h .above)),
-  round-mono binary32 (2 ^ 25 - 1) (2 ^ 25) (E .top * (2 ^ 47 + 1)) (E .bottom * 2 ^ 47) (lit< tt) (mul-pos P (lit< tt))
-      (over-one (E .top) (E .bottom) ((2 ^ 29 - 1) ^ 16) ((2 ^ 29) ^ 16) (2 ^ 47 + 1) (2 ^ 47) (2 ^ 25) (2 ^ 25 - 1) (lit< tt) (lit≤ tt) (h .below)),
+around-one {k} fine E P h = (
+  round-mono binary32 (E .top * (2 ^ k - 1)) (E .bottom * 2 ^ k) (2 ^ 25 + 1) (2 ^ 25) (mul-pos P (pow-pos k)) (lit< tt)
+      (under-one (E .top) (E .bottom) ((2 ^ 29 - 1) ^ 16) ((2 ^ 29) ^ 16) (2 ^ k - 1) (2 ^ k) (2 ^ 25) (2 ^ 25 + 1) (lit< tt) (fine .lower-one) (h .above)),
+  round-mono binary32 (2 ^ 25 - 1) (2 ^ 25) (E .top * (2 ^ k + 1)) (E .bottom * 2 ^ k) (lit< tt) (mul-pos P (pow-pos k))
+      (over-one (E .top) (E .bottom) ((2 ^ 29 - 1) ^ 16) ((2 ^ 29) ^ 16) (2 ^ k + 1) (2 ^ k) (2 ^ 25) (2 ^ 25 - 1) (lit< tt) (fine .upper-one) (h .below)),
 )

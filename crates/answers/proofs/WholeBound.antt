@@ -22,7 +22,7 @@ use Rattle.answers.specs.Claims.{Near, answer, wholeBound}
 use Rattle.answers.proofs.Factors.{Close, turned, looser, powers}
 use Rattle.answers.proofs.Within.{Within, within-more, Reciprocal, normal, small, reciprocal}
 use Rattle.answers.proofs.Squared.{Base, room, power-within}
-use Rattle.answers.proofs.Ends.{between, both-zero, around-one}
+use Rattle.answers.proofs.Ends.{Fine, between, around-zero, around-one}
 use Rattle.answers.proofs.OnePlus.{base, sum-within, tiny-close}
 use Rattle.answers.proofs.Asked.{AskedX, asked-x, AskedY, asked-y, size, size-from-1, size-to-16, cast-is, sign-is, not-rule, takes-whole, on-route}
 
@@ -36,32 +36,34 @@ powers-of-one {P} {R} n l h =
     looser 16 (lit≤ tt) l (subst (λ (z : ℕ). Close (2 ^ 29 - 1) (2 ^ 29) n (P ^ n) (R ^ n) z z) (one-power n) (powers n h))
 
 -- E of x = ±m 2^e and y = ±n 2^d, with s for the f64 sum 1 + x
-module _ (x : Float) (b : Base (onePlus x .top) (onePlus x .bottom)) where
+module _ {k : ℕ} (fine : Fine k) (x : Float) (b : Base (onePlus x .top) (onePlus x .bottom)) where
   -- |x| above 2^-29: the power, or its reciprocal
   by-powers : (t : Bool) (n : ℕ) (d : ℤ) (s : Float) → size n d ≤ 16 → Within 1 (onePlus x .top) (onePlus x .bottom) s
-      → Near 47 (exact x (fin t n d)) (narrowed (cond t (one ⊘ Whole.power s (size n d)) (Whole.power s (size n d))))
+      → Near k (exact x (fin t n d)) (narrowed (cond t (one ⊘ Whole.power s (size n d)) (Whole.power s (size n d))))
   unfolding exact Exact.power Exact.inverse
-  by-powers false n d s l w = between (Exact.power (onePlus x) k) (Whole.power s k) (room b k l .bottom) (within-more 33 (omega arith) (power-within b k s l w))
+  by-powers false n d s l w = between fine (Exact.power (onePlus x) i) (Whole.power s i) (room b i l .bottom) (within-more 33 (omega arith) (power-within b i s l w))
     where
-      k : ℕ
-      k = size n d
-  by-powers true n d s l w = go (reciprocal (omega arith) (room b k l) (power-within b k s l w))
+      i : ℕ
+      i = size n d
+  by-powers true n d s l w = go (reciprocal (omega arith) (room b i l) (power-within b i s l w))
     where
-      k : ℕ
-      k = size n d
+      i : ℕ
+      i = size n d
 
-      go : Reciprocal (2 * k) (onePlus x .top ^ k) (onePlus x .bottom ^ k) (one ⊘ Whole.power s k) → Near 47 (Exact.inverse (onePlus x) k) (narrowed (one ⊘ Whole.power s k))
-      go (normal v) = between (Exact.inverse (onePlus x) k) (one ⊘ Whole.power s k) (room b k l .top) (within-more 33 (omega arith) v)
-      go (small a c A C v h e) = both-zero (Exact.inverse (onePlus x) k) a c (one ⊘ Whole.power s k) (room b k l .top) A C (looser 33 (lit≤ tt) (omega arith) v) h e
+      go : Reciprocal (2 * i) (onePlus x .top ^ i) (onePlus x .bottom ^ i) (one ⊘ Whole.power s i) → Near k (Exact.inverse (onePlus x) i) (narrowed (one ⊘ Whole.power s i))
+      go (normal v) = between fine (Exact.inverse (onePlus x) i) (one ⊘ Whole.power s i) (room b i l .top) (within-more 33 (omega arith) v)
+      go (small a c A C v h e) = around-zero fine (Exact.inverse (onePlus x) i) a c (one ⊘ Whole.power s i) (room b i l .top) A C (looser 33 (lit≤ tt) (omega arith) v) h e
 
   -- |x| at most 2^-29: 1
-  by-one : (t : Bool) (n : ℕ) (d : ℤ) → size n d ≤ 16 → Close (2 ^ 29 - 1) (2 ^ 29) 1 (onePlus x .top) (onePlus x .bottom) 1 1 → Near 47 (exact x (fin t n d)) one
+  by-one : (t : Bool) (n : ℕ) (d : ℤ) → size n d ≤ 16 → Close (2 ^ 29 - 1) (2 ^ 29) 1 (onePlus x .top) (onePlus x .bottom) 1 1 → Near k (exact x (fin t n d)) one
   unfolding exact Exact.power Exact.inverse
-  by-one false n d l h = around-one (Exact.power (onePlus x) (size n d)) (room b (size n d) l .bottom) (powers-of-one (size n d) l h)
-  by-one true n d l h = around-one (Exact.inverse (onePlus x) (size n d)) (room b (size n d) l .top) (turned (powers-of-one (size n d) l h))
+  by-one false n d l h = around-one fine (Exact.power (onePlus x) (size n d)) (room b (size n d) l .bottom) (powers-of-one (size n d) l h)
+  by-one true n d l h = around-one fine (Exact.inverse (onePlus x) (size n d)) (room b (size n d) l .top) (turned (powers-of-one (size n d) l h))
 
 -- ---- the answer
 module _
+    {k : ℕ}
+    (fine : Fine k)
     (s : Bool)
     (m : ℕ)
     (e : ℤ)
@@ -75,7 +77,7 @@ module _
     (to-16 : size n d ≤ 16)
     (route : isWhole (fin s m e) (fin t n d) ≡ true)
   where
-    value : Near 47 (exact (fin s m e) (fin t n d)) (Whole.whole (fin s m e) (fin t n d))
+    value : Near k (exact (fin s m e) (fin t n d)) (Whole.whole (fin s m e) (fin t n d))
     unfolding Whole.whole
     value = go (isTiny (fin s m e)) refl
       where
@@ -88,32 +90,39 @@ module _
         sum : Float
         sum = fin s m e ⊕ one
 
-        far : (k : ℕ) (u : Bool) → k ≡ size n d → u ≡ t → Near 47 E (narrowed (cond u (one ⊘ Whole.power sum k) (Whole.power sum k)))
-        far k u p q =
-            subst (λ (k : ℕ). Near 47 E (narrowed (cond u (one ⊘ Whole.power sum k) (Whole.power sum k)))) (sym p)
-            (subst (λ (u : Bool). Near 47 E (narrowed (cond u (one ⊘ Whole.power sum (size n d)) (Whole.power sum (size n d))))) (sym q)
-            (by-powers (fin s m e) b t n d sum to-16 (sum-within s m e above b)))
+        far : (i : ℕ) (u : Bool) → i ≡ size n d → u ≡ t → Near k E (narrowed (cond u (one ⊘ Whole.power sum i) (Whole.power sum i)))
+        far i u p q =
+            subst (λ (i : ℕ). Near k E (narrowed (cond u (one ⊘ Whole.power sum i) (Whole.power sum i)))) (sym p)
+            (subst (λ (u : Bool). Near k E (narrowed (cond u (one ⊘ Whole.power sum (size n d)) (Whole.power sum (size n d))))) (sym q)
+            (by-powers fine (fin s m e) b t n d sum to-16 (sum-within s m e above b)))
 
         go : (u : Bool) → isTiny (fin s m e) ≡ u
-            → Near 47 E (cond u (Whole.tiny (fin s m e) (fin t n d)) (let acc = Whole.power sum (toUnsigned 32 (absolute (fin t n d))) in narrowed (cond (lt (fin t n d) Special.zero) (one ⊘ acc) acc)))
-        go true h = subst (Near 47 E) (sym (tiny-is-one (fin s m e) (fin t n d) route h)) (by-one (fin s m e) b t n d to-16 (tiny-close s m e h))
+            → Near k E (cond u (Whole.tiny (fin s m e) (fin t n d)) (let acc = Whole.power sum (toUnsigned 32 (absolute (fin t n d))) in narrowed (cond (lt (fin t n d) Special.zero) (one ⊘ acc) acc)))
+        go true h = subst (Near k E) (sym (tiny-is-one (fin s m e) (fin t n d) route h)) (by-one fine (fin s m e) b t n d to-16 (tiny-close s m e h))
         go false h = far (toUnsigned 32 (absolute (fin t n d))) (lt (fin t n d) Special.zero) (cast-is t n d to-16) (sign-is t n d (pos-of-div-pos (down d) from-1))
 
 -- a NaN and an infinity are not asked for
-bound : (x y : Float) → T (fits binary32 x) → AskedX x → AskedY y → Near 47 (exact x y) (answer x y)
+bound : (k : ℕ) (x y : Float) → T (fits binary32 x) → AskedX x → AskedY y → Fine k → Near k (exact x y) (answer x y)
 unfolding lt le absolute
-bound nan y f a b = absurd (a .above)
-bound (inf true) y f a b = absurd (a .above)
-bound (inf false) y f a b = absurd (a .under)
-bound (fin s m e) nan f a b = absurd (b .from-1)
-bound (fin s m e) (inf t) f a b = absurd (b .to-16)
-bound (fin s m e) (fin t n d) f a b =
+bound k nan y f a b fine = absurd (a .above)
+bound k (inf true) y f a b fine = absurd (a .above)
+bound k (inf false) y f a b fine = absurd (a .under)
+bound k (fin s m e) nan f a b fine = absurd (b .from-1)
+bound k (fin s m e) (inf t) f a b fine = absurd (b .to-16)
+bound k (fin s m e) (fin t n d) f a b fine =
     let p = size-from-1 t n d (b .from-1) in
     let w = takes-whole s m e (fin t n d) a b in
-    subst (Near 47 (exact (fin s m e) (fin t n d)))
+    subst (Near k (exact (fin s m e) (fin t n d)))
     (on-route (fin s m e) (fin t n d) (not-rule s m e t n d (a .above) (a .nonzero) (pos-of-div-pos (down d) p)) w)
-    (value s m e t n d f (a .above) (a .under) p (size-to-16 t n d (b .to-16)) w)
+    (value fine s m e t n d f (a .above) (a .under) p (size-to-16 t n d (b .to-16)) w)
 
 pub whole-bound : (x y : Float) → T (fits binary32 x) → T (fits binary32 y) → wholeBound x y
 unfolding wholeBound
-whole-bound x y f g h k = bound x y f (asked-x x k) (asked-y y h)
+whole-bound x y f g h k =
+    bound _ x y f (asked-x x k) (asked-y y h) (record {
+      lower = lit≤ tt;
+      upper = lit≤ tt;
+      zero = lit≤ tt;
+      lower-one = lit≤ tt;
+      upper-one = lit≤ tt;
+    })
