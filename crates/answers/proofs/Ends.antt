@@ -22,8 +22,9 @@ use Rattle.answers.specs.Claims.{Near}
 use Rattle.answers.proofs.Factors.{Close}
 use Rattle.answers.proofs.Within.{near, full, Within}
 
--- what is asked of k: 33 factors change a fraction by no more than 2^-k of it, even in front of 2^-1022 it is far below half of f32's smallest value,
--- and with 16 factors (2^29 - 1) / 2^29 it is no further from 1 than 1 ± 2^-25, which round to 1
+-- What is asked of k. 33 factors change a fraction by 2^-k of it at most (`lower`, `upper`). What is within them of 2^-1022, times 1 - 2^-k, is 2^-150 at
+-- most (`zero`). And what is within 16 factors (2^29 - 1) / 2^29 of 1, times 1 - 2^-k, is 1 + 2^-25 at most, and times 1 + 2^-k, 1 - 2^-25 at least
+-- (`lower-one`, `upper-one`).
 pub record Fine (k : ℕ) : Type 0 where
   pub lower : (2 ^ k - 1) * full ^ 33 ≤ 2 ^ k * near ^ 33
   pub upper : 2 ^ k * full ^ 33 ≤ (2 ^ k + 1) * near ^ 33
@@ -120,7 +121,7 @@ around-zero {k} fine E a c v P A C w h e =
     low = lower-zero a c (E .bottom) (E .top) (near ^ 33) (full ^ 33) (2 ^ k - 1) (2 ^ k) (2 ^ 1074) (2 ^ 52) (2 ^ 150) C (lit< tt) (fine .zero) h (w .above)
 
 -- ---- one
--- the last fraction below 1 and above it that round to 1 are 1 ± 2^-25 or further out
+-- 1 + 2^-25 and 1 - 2^-25 round to 1
 under-one : (A C k K u U w W : ℕ) → 0 < k → u * w * K ≤ W * U * k → A * 1 * k ≤ 1 * C * K → A * u * w ≤ W * (C * U)
 under-one A C k K u U w W P l h =
     let x : A * 1 * k * (u * w) ≤ 1 * C * K * (u * w) = mul-le-mul-right (u * w) h in

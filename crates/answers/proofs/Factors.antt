@@ -34,10 +34,6 @@ turn : (a b c d i j : ℕ) → a * b * i ≤ c * d * j → b * a * i ≤ d * c *
 turn a b c d i j h = omega arith
 
 -- ---- the laws
--- the other way round
-pub flipped : {k K n a c b d : ℕ} → Close k K n a c b d → Close k K n b d a c
-flipped h = record { above = h .below; below = h .above }
-
 -- of the reciprocals
 pub turned : {k K n a c b d : ℕ} → Close k K n a c b d → Close k K n c a d b
 turned {k} {K} {n} {a} {c} {b} {d} h = record { above = turn b c a d (k ^ n) (K ^ n) (h .below); below = turn a d b c (k ^ n) (K ^ n) (h .above) }

@@ -1,5 +1,5 @@
 -- The squarings of the route `whole`: where s is one factor from P / R, its n-th power, worked out along the bits of n, is within 2n factors of
--- P^n / R^n, for n from 1 to 16 (`power-within`). Assumes nothing.
+-- P^n / R^n, for n up to 16 (`power-within`). Assumes nothing.
 use mathlib.Core.Path.{_≡_, refl, sym, ap, _∙_, subst}
 use mathlib.Core.Bool.{Bool, true, false, cond}
 use Prim.Native.Nat.{ℕ, zero, suc, _+_, _-_, _*_, _/_, _%_, _^_, _≤_, _<_}
@@ -27,7 +27,7 @@ above-none : (P R M : ℕ) → 0 < R → R ≤ P * M → 0 < P
 above-none zero R M h l = omega arith
 above-none (suc P) R M h l = omega arith
 
-pub top : {P R : ℕ} → Base P R → 0 < P
+top : {P R : ℕ} → Base P R → 0 < P
 top {P} {R} b = above-none P R (2 ^ 24) (b .bottom) (b .at-least)
 
 -- a ≤ K b gives a^n ≤ K^16 b^n
@@ -86,8 +86,8 @@ without-bit i j t h b e =
     even h b = omega arith
 
 -- with a bit left, the next square and its product with acc are of exponents up to t
-fits : (i j t h : ℕ) → 0 < h → t ≤ 16 → j + i * (2 * h) ≡ t → j + (i + i) ≤ 16
-fits i j t h p l e =
+next-fits : (i j t h : ℕ) → 0 < h → t ≤ 16 → j + i * (2 * h) ≡ t → j + (i + i) ≤ 16
+next-fits i j t h p l e =
     let z : i ≤ i * h = le-mul-of-pos-right i p in
     omega arith
 
@@ -112,7 +112,7 @@ squared {P} {R} b (suc turns) n i j t s acc p l m e v w = go (leb n 1) refl (λ 
     lower = halved n (2 ^ suc turns) (subst (λ (k : ℕ). n < k) (pow-succ' 2 (suc turns)) l)
 
     small : 1 < n → j + (i + i) ≤ 16
-    small g = fits i j t (n / 2) (omega arith) m e
+    small g = next-fits i j t (n / 2) (omega arith) m e
 
     next : 1 < n → Power P R (2 * (i + i) - 1) (i + i) (s ⊗ s)
     next g = square b i s p (omega (arith, small g)) v

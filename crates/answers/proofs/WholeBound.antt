@@ -35,7 +35,7 @@ powers-of-one : {P R : ℕ} (n : ℕ) → n ≤ 16 → Close (2 ^ 29 - 1) (2 ^ 2
 powers-of-one {P} {R} n l h =
     looser 16 (lit≤ tt) l (subst (λ (z : ℕ). Close (2 ^ 29 - 1) (2 ^ 29) n (P ^ n) (R ^ n) z z) (one-power n) (powers n h))
 
--- E of x = ±m 2^e and y = ±n 2^d, with s for the f64 sum 1 + x
+-- of y = ±n 2^d, with s for the f64 sum 1 + x
 module _ {k : ℕ} (fine : Fine k) (x : Float) (b : Base (onePlus x .top) (onePlus x .bottom)) where
   -- |x| above 2^-29: the power, or its reciprocal
   by-powers : (t : Bool) (n : ℕ) (d : ℤ) (s : Float) → size n d ≤ 16 → Within 1 (onePlus x .top) (onePlus x .bottom) s
@@ -116,6 +116,7 @@ bound k (fin s m e) (fin t n d) f a b fine =
     (on-route (fin s m e) (fin t n d) (not-rule s m e t n d (a .above) (a .nonzero) (pos-of-div-pos (down d) p)) w)
     (value fine s m e t n d f (a .above) (a .under) p (size-to-16 t n d (b .to-16)) w)
 
+-- the k of the claim is small enough
 pub whole-bound : (x y : Float) → T (fits binary32 x) → T (fits binary32 y) → wholeBound x y
 unfolding wholeBound
 whole-bound x y f g h k =

@@ -1,6 +1,6 @@
 -- An f64 and how near it is to a fraction, in factors of (2^53 - 1) / 2^53: one rounding is one of them (`rounded`), so a product of values has those of
--- both and one more (`times`), and so has a reciprocal (`reciprocal`). Up to 33 factors the range of the fraction is that of the value but for a
--- little (`not-over`, `not-under`). Assumes nothing.
+-- both and one more (`times`), and a reciprocal has one more too, unless it leaves the normal range (`reciprocal`). That a result is in range is known
+-- from the fraction, up to 33 factors (`not-over`, `not-under`). Assumes nothing.
 use mathlib.Core.Path.{_≡_, refl, sym, ap, ap₂, _∙_, subst, subst₂}
 use mathlib.Core.Bool.{Bool, true, false, not}
 use Prim.Native.Nat.{ℕ, zero, suc, _+_, _-_, _*_, _^_, _≤_, _<_}
@@ -70,7 +70,7 @@ rounded a c C normal small =
     }
 
 -- of a fraction that is near to A / C
-pub rounded-near : {n A C : ℕ} (a c : ℕ) → 0 < c → 2 ^ 52 * c ≤ a * 2 ^ 1074 → a < halfway binary64 * c → Close near full n a c A C → Within (1 + n) A C (round binary64 false a c)
+rounded-near : {n A C : ℕ} (a c : ℕ) → 0 < c → 2 ^ 52 * c ≤ a * 2 ^ 1074 → a < halfway binary64 * c → Close near full n a c A C → Within (1 + n) A C (round binary64 false a c)
 rounded-near a c C normal small h =
     let w = rounded a c C normal small in
     record { digits = w .digits; exponent = w .exponent; is = w .is; close = joined C (w .close) h }
@@ -84,7 +84,7 @@ over a c A C i I M H P D l h k =
     let z : c * (M * I) < c * (H * i) = mul-lt-mul-of-pos-left l D in
     lt-of-mul-lt-mul-right i (omega arith)
 
-pub not-over : {a c A C : ℕ} → 0 < C → 0 < c → A ≤ (2 ^ 64 - 2 ^ 39) ^ 16 * C → Close near full 33 a c A C → a < halfway binary64 * c
+not-over : {a c A C : ℕ} → 0 < C → 0 < c → A ≤ (2 ^ 64 - 2 ^ 39) ^ 16 * C → Close near full 33 a c A C → a < halfway binary64 * c
 not-over {a} {c} {A} {C} P D h w = over a c A C (near ^ 33) (full ^ 33) ((2 ^ 64 - 2 ^ 39) ^ 16) (halfway binary64) P D (lit< tt) (w .above) h
 
 -- what is at least 2^-384 is in the normal range
@@ -96,7 +96,7 @@ under a c A C i I M U L P D l h k =
     let z : a * (U * (M * I)) ≤ a * (L * i) = mul-le-mul-left a l in
     le-of-mul-le-mul-right {k = i} (omega arith) D
 
-pub not-under : {a c A C : ℕ} → 0 < A → C ≤ A * 2 ^ 384 → Close near full 33 a c A C → 2 ^ 52 * c ≤ a * 2 ^ 1074
+not-under : {a c A C : ℕ} → 0 < A → C ≤ A * 2 ^ 384 → Close near full 33 a c A C → 2 ^ 52 * c ≤ a * 2 ^ 1074
 not-under {a} {c} {A} {C} P h w = under a c A C (near ^ 33) (full ^ 33) (2 ^ 384) (2 ^ 52) (2 ^ 1074) P (lit< tt) (lit≤ tt) (w .below) h
 
 -- ---- a product and a reciprocal
@@ -123,7 +123,7 @@ some : (v x y : ℕ) → 0 < x → x ≤ v * y → 0 < v
 some zero x y h l = omega arith
 some (suc v) x y h l = omega arith
 
-pub positive : {n A C : ℕ} {x : Float} → 0 < A → (w : Within n A C x) → 0 < w .digits * up (w .exponent)
+positive : {n A C : ℕ} {x : Float} → 0 < A → (w : Within n A C x) → 0 < w .digits * up (w .exponent)
 positive {n} {A} {C} h w =
     some (w .digits * up (w .exponent)) (A * down (w .exponent) * near ^ n) (C * full ^ n) (mul-pos (mul-pos h (down-pos (w .exponent))) (one-le-pow n near (lit< tt)))
     (le-trans (w .close .below) (le-of-eq (mul-assoc (w .digits * up (w .exponent)) C (full ^ n))))
@@ -150,11 +150,11 @@ reciprocal {n} {A} {C} {x} l r w = go (leb (2 ^ 52 * a) (c * 2 ^ 1074)) (leb→l
     c : ℕ
     c = down (w .exponent)
 
-    some : 0 < a
-    some = positive (r .top) w
+    above-0 : 0 < a
+    above-0 = positive (r .top) w
 
     is : one ⊘ x ≡ round binary64 false c a
-    is = ap (λ (y : Float). one ⊘ y) (w .is) ∙ one-over (w .digits) (w .exponent) some
+    is = ap (λ (y : Float). one ⊘ y) (w .is) ∙ one-over (w .digits) (w .exponent) above-0
 
     within-range : C ≤ (2 ^ 64 - 2 ^ 39) ^ 16 * A
     within-range = le-trans (r .at-least) (le-trans (le-of-eq (mul-comm A (2 ^ 384))) (mul-le-mul-right A (lit≤ tt)))
@@ -162,5 +162,5 @@ reciprocal {n} {A} {C} {x} l r w = go (leb (2 ^ 52 * a) (c * 2 ^ 1074)) (leb→l
     go : (b : Bool) → (T b → 2 ^ 52 * a ≤ c * 2 ^ 1074) → (T (not b) → c * 2 ^ 1074 < 2 ^ 52 * a) → Reciprocal n A C (one ⊘ x)
     go true h k =
         normal (subst (Within (1 + n) C A) (sym is)
-        (rounded-near c a some (h tt) (not-over (r .top) some within-range (looser 33 (lit≤ tt) l (turned (w .close)))) (turned (w .close))))
-    go false h k = small a c some (down-pos (w .exponent)) (w .close) (k tt) is
+        (rounded-near c a above-0 (h tt) (not-over (r .top) above-0 within-range (looser 33 (lit≤ tt) l (turned (w .close)))) (turned (w .close))))
+    go false h k = small a c above-0 (down-pos (w .exponent)) (w .close) (k tt) is
