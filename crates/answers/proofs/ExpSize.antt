@@ -6,7 +6,7 @@ use lib.Dec.{lit<}
 use lib.Ieee.{Float}
 use Rattle.floats.specs.Operations.{_⊕_, _⊖_}
 use Rattle.double_double.specs.declared.DoubleDouble.{DoubleDouble}
-use Rattle.double_double.specs.DoubleDouble.{fromExactAdd, quickMult}
+use Rattle.double_double.specs.DoubleDouble.{fromExactAdd, fromExactMult, quickMult}
 use Rattle.tables.specs.Tables.{entry, pairEntry, compoundfExp2T, compoundfExp2U}
 use Rattle.compound.specs.Slow.{q2, nextExp2, highestExp2, compoundfExp2Poly2, exp2Product}
 use Rattle.bounds.proofs.Scales.{S, unit, Bound, Bounds, at, unit-left, add-bound, mul-bound, fast-bounds, quick-bounds, fmla-bound}
@@ -62,13 +62,13 @@ pub record Product (q : DoubleDouble) : Type 0 where
   pub lo : Bound S 16 (q .lo)
 
 pub product-near-one : (v : DoubleDouble) (i : ℕ) → i < 33 → Bound S (2 ^ 48 + 2 ^ 40) (v .hi ⊖ entry compoundfExp2T i) → Bound S (2 ^ 8) (v .lo) → Product (exp2Product v i)
-unfolding exp2Product fromExactAdd quickMult
+unfolding exp2Product fromExactAdd quickMult fromExactMult
 product-near-one v i h b c =
     let r = fast-bounds b c tt in
     let q = poly-near-one (record { hi = at (2 ^ 48 + 2 ^ 41) (r .hi) tt; lo = at (2 ^ 10) (r .lo) tt }) in
     let U = power-hi i h in
     let m = quick-bounds (unit-left unit) (record { hi = positive-bound U; lo = power-lo i h }) (record { hi = positive-bound (q .hi); lo = q .lo }) tt in
-    let high = positive-at (3 * 2 ^ 50) (2 ^ 54 - 2 ^ 50) (positive-mul (3 * 2 ^ 50) U (q .hi) tt tt tt) tt tt in
+    let high = positive-at (3 * 2 ^ 50) (2 ^ 54 - 2 ^ 49) (positive-mul (3 * 2 ^ 50) U (q .hi) tt tt tt) tt tt in
     let low = at (2 ^ 33) (m .lo) tt in
     record {
       hi = positive-at (2 ^ 51) (2 ^ 54) (positive-add high low tt tt) tt tt;
