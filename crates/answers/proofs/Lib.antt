@@ -13,3 +13,5 @@ pub mod Ends
 pub mod OnePlus
 pub mod Asked
 pub mod WholeBound
+pub mod PowerSlot
+pub mod ExpSign

@@ -4,16 +4,16 @@ use mathlib.Core.Path.{_≡_, refl, sym, ap, ap₂, _∙_, subst}
 use mathlib.Core.Logic.{_⊎_, inl, inr}
 use mathlib.Core.Bool.{Bool, true, false, not, _&&_, _||_}
 use Prim.Native.Nat.{ℕ, zero, suc, _+_, _-_, _*_, _/_, _^_, _≤_, _<_}
-use native.Mathlib.Nat.{le-refl, le-trans, le-of-eq, le-antisymm, lt-of-le-of-lt, lt-of-lt-of-le, le-of-mul-le-mul-right, mul-comm, mul-assoc, mul-right-comm, mul-le-mul, mul-le-mul-right, mul-pos, add-mul, add-zero, zero-add, le-add-right, mul-mul-mul-comm, mul-lt-mul-of-pos-right, not-le-of-lt}
+use native.Mathlib.Nat.{le-refl, le-trans, le-of-eq, le-antisymm, lt-of-le-of-lt, lt-of-lt-of-le, le-of-mul-le-mul-right, mul-comm, mul-assoc, mul-right-comm, mul-le-mul, mul-le-mul-right, mul-pos, add-mul, add-zero, zero-add, le-add-right, mul-mul-mul-comm, mul-lt-mul-of-pos-right, not-le-of-lt, div-div-eq-div-mul, div-mul-le-self, div-lt-iff-lt-mul}
 use native.Mathlib.Omega.{arith}
 use lib.Dec.{T, leb, ltb, eqb, leb→le, ltb→lt, nltb→le, eqb→eq, lit≤, lit<}
 use lib.IntN.{ℤ}
 use lib.Pow.{pow-pos}
-use lib.Ieee.{Float, nan, inf, fin, binary64, prec, low, up, down, le, below, level, fits, toBits}
+use lib.Ieee.{Float, nan, inf, fin, binary64, up, down, size, le, below, level, fits, toBits}
 use lib.Ieee.Fits.{and-i, and-l, and-r, eq→eqb, down-pos}
 use lib.Ieee.Scale.{finite}
 use Rattle.floats.specs.Operations.{_⊕_, _⊗_}
-use Rattle.floats.proofs.Laws.Place.{place-below, place-above}
+use Rattle.floats.proofs.Laws.Place.{size-exact, place-below, place-above}
 use Rattle.floats.proofs.Laws.Order.{bits-of-clear, under-zero}
 use Rattle.floats.proofs.Laws.Sums.{above, under, above-times, under-times, le-says, SizeAtMost}
 use Rattle.floats.proofs.Laws.Units.{exponent, in-units}
@@ -229,3 +229,41 @@ positive-at {a} {b} c d p t u = record {
   least = le-trans (mul-le-mul-right S (leb→le c a t)) (p .least);
   most = le-trans (p .most) (mul-le-mul-right S (leb→le b d u));
 }
+
+-- ---- the pattern of what is from 2 to 4: its digits are the number of 2^-51 in it
+two-digits : (X : ℕ) → 2 ^ 54 * S ≤ X → X ≤ (2 ^ 55 - 1) * S → size X ≡ 1076
+unfolding S
+two-digits X l m = size-exact 1075 X (le-trans (lit≤ tt) l) (lt-of-le-of-lt m (lit< tt))
+
+pub bits-from-two : {x : Float} → Positive (2 ^ 54) (2 ^ 55 - 1) x → toBits binary64 x ≡ 1023 * 2 ^ 52 + plus x / 2 ^ 1023
+bits-from-two {x} p = go x (p .number) (p .clear) (p .least) (p .most)
+  where
+    go : (x : Float) → Number x → less x ≡ 0 → 2 ^ 54 * S ≤ plus x → plus x ≤ (2 ^ 55 - 1) * S → toBits binary64 x ≡ 1023 * 2 ^ 52 + plus x / 2 ^ 1023
+    go nan n c l m = absurd (n .plain)
+    go (inf s) n c l m = absurd (n .plain)
+    go (fin true k e) n c l m = absurd (not-le-of-lt (mul-pos (lit< tt) S-pos) l)
+    go (fin false k e) n c l m =
+        let X = k * 2 ^ exponent 1074 e in
+        bits-of-clear binary64 k e (n .held) ∙ ap (λ (z : ℕ). (z - 53) * 2 ^ 52 + X / 2 ^ (z - 53)) (two-digits X l m)
+
+-- the pattern without its last digits: the place among the 64ths, and among the 32nds
+pub place-in-64ths : {x : Float} → Positive (2 ^ 54) (2 ^ 55 - 1) x → toBits binary64 x / 2 ^ 45 ≡ 130944 + plus x / (2 ^ 47 * S)
+unfolding S
+place-in-64ths {x} p = ap (λ (n : ℕ). n / 2 ^ 45) (bits-from-two p) ∙ go (plus x / 2 ^ 1023) ∙ ap (λ (n : ℕ). 130944 + n) (div-div-eq-div-mul (plus x) (2 ^ 1023) (2 ^ 45))
+  where
+    go : (n : ℕ) → (1023 * 4503599627370496 + n) / 2 ^ 45 ≡ 130944 + n / 2 ^ 45
+    go n = omega arith
+
+pub place-in-32nds : {x : Float} → Positive (2 ^ 54) (2 ^ 55 - 1) x → toBits binary64 x / 2 ^ 46 ≡ 65472 + plus x / (2 ^ 48 * S)
+unfolding S
+place-in-32nds {x} p = ap (λ (n : ℕ). n / 2 ^ 46) (bits-from-two p) ∙ go (plus x / 2 ^ 1023) ∙ ap (λ (n : ℕ). 65472 + n) (div-div-eq-div-mul (plus x) (2 ^ 1023) (2 ^ 46))
+  where
+    go : (n : ℕ) → (1023 * 4503599627370496 + n) / 2 ^ 46 ≡ 65472 + n / 2 ^ 46
+    go n = omega arith
+
+-- a quotient by u, from both sides
+pub quotient : (X u : ℕ) → 0 < u → (X / u * u ≤ X) × (X < (X / u + 1) * u)
+quotient X u h = (div-mul-le-self X u, div-lt-iff-lt-mul h .0 (one-more (X / u)))
+  where
+    one-more : (q : ℕ) → q < q + 1
+    one-more q = omega arith

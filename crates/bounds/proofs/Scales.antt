@@ -16,7 +16,7 @@ use Rattle.floats.specs.Operations.{_⊕_, _⊖_, _⊗_}
 use Rattle.double_double.specs.declared.DoubleDouble.{DoubleDouble}
 use Rattle.double_double.specs.DoubleDouble.{fromExactAdd, fromFullExactAdd, fromExactMult, quickMult, quickMultF64, fullAddF64, ddFmla}
 use Rattle.bounds.proofs.Values.{perOne, perOne-pos, plus, less, mag, Number, neg-plus, neg-less, neg-number}
-use Rattle.bounds.proofs.Operation.{limit, Close, add-near, mul-near}
+use Rattle.bounds.proofs.Operation.{limit, Small, add-near, sub-near, mul-near}
 use Rattle.bounds.proofs.Sums.{sum-small, add-mag, close-mag, fast-sum, full-sum}
 use Rattle.bounds.proofs.Products.{Dekker, dekker-near}
 
@@ -340,3 +340,9 @@ tested K x t =
       number = record { held = and-l (fits binary64 x) (finite x) h; plain = and-r (fits binary64 x) (finite x) h };
       size = leb→le (mag x) (K * 2 ^ 1021) (and-r (fits binary64 x && finite x) (leb (mag x) (K * 2 ^ 1021)) t);
     }
+
+-- ---- a difference that is known to be small, whatever its terms
+pub sub-small-bound : {μ : ℕ} {x y : Float} (K : ℕ) → Scale μ → Number x → Number y → Small (plus x + less y) (less x + plus y) (K * μ) → T (ok K) → Bound μ (K + (K / 2 ^ 53 + 1)) (x ⊖ y)
+sub-small-bound {μ} {x} {y} K s p q b t =
+    let c = sub-near (K * μ) p q b (one-part (K * μ) limit (small-limit K μ t (s .bounded)) .0) in
+    record { scale = s; number = c .number; size = rounded-up (mag (x ⊖ y)) K μ (s .positive) (close-mag (K * μ) c b) }

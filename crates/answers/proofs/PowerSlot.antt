@@ -1,0 +1,161 @@
+-- The index of the power: for |r| up to 65/128 it is inside the table, and the power's exponent (i - 16)/32 is within 1/64 of r, and a little more
+-- (`power-slot`). Assumes nothing.
+use mathlib.Core.Path.{_≡_, refl, sym, ap, _∙_, subst}
+use mathlib.Core.Logic.{_⊎_, inl, inr}
+use mathlib.Core.Bool.{Bool, true, false, not}
+use Prim.Native.Nat.{ℕ, _+_, _-_, _*_, _/_, _^_, _≤_, _<_}
+use native.Mathlib.Nat.{le-trans, le-of-eq, lt-of-le-of-lt, lt-of-lt-of-le, le-div-iff-mul-le, div-lt-iff-lt-mul, mul-right-comm, mul-comm, mul-assoc, mul-pos, mul-le-mul-right, add-mul, zero-add, le-antisymm, le-of-lt}
+use native.Mathlib.Omega.{arith}
+use lib.Dec.{T, ltb, ltb→lt, nltb→le, lit<, lit≤}
+use lib.IntN.{ℤ}
+use lib.Ieee.{Float, nan, inf, fin, binary64, up, down, fits, toBits, ofBits}
+use lib.Ieee.Bits.{ofBits-fits}
+use lib.Ieee.Exact.{HasValue}
+use Rattle.floats.specs.Operations.{_⊕_, _⊖_, f64}
+use Rattle.floats.proofs.Laws.Sums.{above, under}
+use Rattle.tables.specs.Tables.{entry, compoundfExp2T}
+use Rattle.tables.proofs.Entries.{exp2t-rule}
+use Rattle.compound.specs.Fast.{powerIndex}
+use Rattle.bounds.proofs.Values.{perOne, plus, less, mag, Number, Units, by-value}
+use Rattle.bounds.proofs.Operation.{limit, Close, Small, add-near}
+use Rattle.bounds.proofs.Sums.{sum-small}
+use Rattle.bounds.proofs.Scales.{S, S-pos, one-is, unit, Bound, at, both-sizes, one-part, small-limit, sub-small-bound}
+use Rattle.bounds.proofs.Compared.{Positive, tested-positive, positive-at, positive-bound, positive-add, place-in-32nds, quotient}
+
+-- ---- the values of the table, in units: (i - 16)/32
+record Exponent (i : ℕ) (x : Float) : Type 0 where
+  number : Number x
+  is : plus x + 16 * (2 ^ 48 * S) ≡ less x + i * (2 ^ 48 * S)
+
+-- a / 32 is a × 2^48 on the scale of 1
+on-scale : (x : Float) (s : Bool) (a : ℕ) → T (fits binary64 x) → HasValue x s a 32 → Units s (a * (2 ^ 48 * S)) x
+on-scale nan s a t v = absurd v
+on-scale (inf u) s a t v = absurd v
+on-scale (fin u m e) s a t v =
+    by-value (fin u m e) s (a * (2 ^ 48 * S)) t (v .0, subst (λ (w : ℕ). m * up e * w ≡ a * (2 ^ 48 * S) * down e) (sym (thirty-two S perOne one-is)) (go (m * up e) a (down e) (2 ^ 48 * S) (v .1)))
+  where
+    thirty-two : (s w : ℕ) → w ≡ s * 2 ^ 53 → w ≡ 32 * (2 ^ 48 * s)
+    thirty-two s w e = omega arith
+
+    go : (x a d k : ℕ) → x * 32 ≡ a * d → x * (32 * k) ≡ a * k * d
+    go x a d k e = sym (mul-assoc x 32 k) ∙ ap (λ (z : ℕ). z * k) e ∙ mul-right-comm a d k
+
+exponent-of : (i : ℕ) → i < 33 → Exponent i (entry compoundfExp2T i)
+unfolding entry
+exponent-of i h = go (ltb i 16) (ltb→lt i 16) (nltb→le i 16) (on-scale (entry compoundfExp2T i) (ltb i 16) (16 - i + (i - 16)) (ofBits-fits binary64 _) (exp2t-rule i h))
+  where
+    below : (i a : ℕ) → i < 16 → 0 + 16 * a ≡ (16 - i + (i - 16)) * a + i * a
+    below i a h = zero-add (16 * a) ∙ sym (sym (add-mul (16 - i + (i - 16)) i a) ∙ ap (λ (z : ℕ). z * a) (back i h))
+      where
+        back : (i : ℕ) → i < 16 → 16 - i + (i - 16) + i ≡ 16
+        back i h = omega arith
+
+    from : (i a : ℕ) → 16 ≤ i → (16 - i + (i - 16)) * a + 16 * a ≡ 0 + i * a
+    from i a h = sym (add-mul (16 - i + (i - 16)) 16 a) ∙ ap (λ (z : ℕ). z * a) (back i h) ∙ sym (zero-add (i * a))
+      where
+        back : (i : ℕ) → 16 ≤ i → 16 - i + (i - 16) + 16 ≡ i
+        back i h = omega arith
+
+    go : (b : Bool) → (T b → i < 16) → (T (not b) → 16 ≤ i) → Units b ((16 - i + (i - 16)) * (2 ^ 48 * S)) (entry compoundfExp2T i) → Exponent i (entry compoundfExp2T i)
+    go true l g u = record { number = u .number; is = ap (λ (z : ℕ). z + 16 * (2 ^ 48 * S)) (u .plus-is) ∙ below i (2 ^ 48 * S) (l tt) ∙ sym (ap (λ (z : ℕ). z + i * (2 ^ 48 * S)) (u .less-is)) }
+    go false l g u = record { number = u .number; is = ap (λ (z : ℕ). z + 16 * (2 ^ 48 * S)) (u .plus-is) ∙ from i (2 ^ 48 * S) (g tt) ∙ sym (ap (λ (z : ℕ). z + i * (2 ^ 48 * S)) (u .less-is)) }
+
+-- ---- the index
+-- 3 + 1/64
+abbrev three : Float
+three = f64 0x4008200000000000
+
+three-is : Positive (193 * 2 ^ 47) (193 * 2 ^ 47) three
+unfolding ofBits fits
+three-is = tested-positive (193 * 2 ^ 47) (193 * 2 ^ 47) three tt
+
+pub record Slot (r : Float) : Type 0 where
+  pub inside : powerIndex r < 33
+  pub rest : Bound S (2 ^ 48 + 2 ^ 40) (r ⊖ entry compoundfExp2T (powerIndex r))
+
+-- from the sum, of X units, to the rest: with s for the scale and t for i times it
+rest-small : (X C pr nr pT nT s t : ℕ) → C ≡ 193 * 2 ^ 47 * s → pT + 16 * (2 ^ 48 * s) ≡ nT + t * 2 ^ 48 → (t + 80 * s) * 2 ^ 48 ≤ X → X ≤ (t + 81 * s) * 2 ^ 48
+    → X + nr ≤ C + pr + 4 * s → C + pr ≤ X + nr + 4 * s → Small (pr + nT) (nr + pT) ((2 ^ 47 + 4) * s)
+rest-small X C pr nr pT nT s t c e l m g h = record { upper = omega arith; lower = omega arith }
+
+module _ (r : Float) (b : Bound S (65 * 2 ^ 46) r) where
+  w : Float
+  w = three ⊕ r
+
+  sum-is : Positive (80 * 2 ^ 48) (113 * 2 ^ 48 - 1) w
+  unfolding w
+  sum-is = positive-at (80 * 2 ^ 48) (113 * 2 ^ 48 - 1) (positive-add three-is b tt tt) tt tt
+
+  j : ℕ
+  j = plus w / (2 ^ 48 * S)
+
+  parts-pos : 0 < 2 ^ 48 * S
+  parts-pos = mul-pos (lit< tt) S-pos
+
+  index-is : powerIndex r ≡ j - 80
+  unfolding powerIndex w j
+  index-is = ap (λ (n : ℕ). n - 0x10010) (place-in-32nds (positive-at (2 ^ 54) (2 ^ 55 - 1) sum-is tt tt)) ∙ less-by (plus w / (2 ^ 48 * S))
+    where
+      less-by : (n : ℕ) → 65472 + n - 0x10010 ≡ n - 80
+      less-by n = omega arith
+
+  j-least : 80 ≤ j
+  unfolding j
+  j-least = le-div-iff-mul-le parts-pos .1 (le-trans (le-of-eq (sym (mul-assoc 80 (2 ^ 48) S))) (sum-is .least))
+
+  j-most : j < 113
+  unfolding j
+  j-most = div-lt-iff-lt-mul parts-pos .1 (lt-of-le-of-lt (sum-is .most) (lt-of-lt-of-le (one-less S S-pos) (le-of-eq (mul-assoc 113 (2 ^ 48) S))))
+    where
+      one-less : (s : ℕ) → 0 < s → (113 * 2 ^ 48 - 1) * s < 113 * 2 ^ 48 * s
+      one-less s h = omega arith
+
+  inside : powerIndex r < 33
+  inside = subst (λ (n : ℕ). n < 33) (sym index-is) (go j j-least j-most)
+    where
+      go : (n : ℕ) → 80 ≤ n → n < 113 → n - 80 < 33
+      go n g h = omega arith
+
+  -- the sum is within four parts of 2^53 of the exact one
+  exact : Close (plus three + plus r) (less three + less r) ((193 * 2 ^ 47 + 65 * 2 ^ 46) * S) w
+  unfolding w
+  exact =
+      let d = (193 * 2 ^ 47 + 65 * 2 ^ 46) * S in
+      add-near d (three-is .number) (b .number) (sum-small three r d (both-sizes (positive-bound three-is) b)) (one-part d limit (small-limit (193 * 2 ^ 47 + 65 * 2 ^ 46) S tt (unit .bounded)) .0)
+
+  pub power-slot : Slot r
+  unfolding j
+  power-slot =
+      let i = powerIndex r in
+      let T = exponent-of i inside in
+      let q = quotient (plus w) (2 ^ 48 * S) parts-pos in
+      let i80 : i + 80 ≡ j = ap (λ (n : ℕ). n + 80) index-is ∙ back j j-least in
+      let c = exact in
+      let small = rest-small (plus w) (plus three) (plus r) (less r) (plus (entry compoundfExp2T i)) (less (entry compoundfExp2T i)) S (i * S)
+      (three-plus) (T .is ∙ ap (λ (n : ℕ). less (entry compoundfExp2T i) + n) (shifted i S))
+      (le-trans (le-of-eq (low-end i S)) (subst (λ (n : ℕ). n * (2 ^ 48 * S) ≤ plus w) (sym i80) (q .0)))
+      (le-trans (le-of-lt (subst (λ (n : ℕ). plus w < (n + 1) * (2 ^ 48 * S)) (sym i80) (q .1))) (le-of-eq (sym (high-end i S))))
+      (over (plus w) (less w) (plus three) (less three) (plus r) (less r) S (three-is .clear) (sum-is .clear) (c .most))
+      (under (plus w) (less w) (plus three) (less three) (plus r) (less r) S (three-is .clear) (sum-is .clear) (c .least)) in
+      record { inside = inside; rest = at (2 ^ 48 + 2 ^ 40) (sub-small-bound (2 ^ 47 + 4) unit (b .number) (T .number) small tt) tt }
+    where
+      back : (n : ℕ) → 80 ≤ n → n - 80 + 80 ≡ n
+      back n h = omega arith
+
+      shifted : (i s : ℕ) → i * (2 ^ 48 * s) ≡ i * s * 2 ^ 48
+      shifted i s = omega arith
+
+      low-end : (i s : ℕ) → (i * s + 80 * s) * 2 ^ 48 ≡ (i + 80) * (2 ^ 48 * s)
+      low-end i s = omega arith
+
+      high-end : (i s : ℕ) → (i * s + 81 * s) * 2 ^ 48 ≡ (i + 80 + 1) * (2 ^ 48 * s)
+      high-end i s = omega arith
+
+      three-plus : plus three ≡ 193 * 2 ^ 47 * S
+      three-plus = le-antisymm (three-is .most) (three-is .least)
+
+      over : (X n C m p q s : ℕ) → m ≡ 0 → n ≡ 0 → (X + (m + q)) * 2 ^ 53 ≤ (n + (C + p)) * 2 ^ 53 + (193 * 2 ^ 47 + 65 * 2 ^ 46) * s → X + q ≤ C + p + 4 * s
+      over X n C m p q s e f h = omega arith
+
+      under : (X n C m p q s : ℕ) → m ≡ 0 → n ≡ 0 → (n + (C + p)) * 2 ^ 53 ≤ (X + (m + q)) * 2 ^ 53 + (193 * 2 ^ 47 + 65 * 2 ^ 46) * s → C + p ≤ X + q + 4 * s
+      under X n C m p q s e f h = omega arith
