@@ -15,3 +15,4 @@ pub mod Asked
 pub mod WholeBound
 pub mod PowerSlot
 pub mod ExpSign
+pub mod InverseSlot

@@ -17,10 +17,11 @@ use Rattle.floats.proofs.Laws.Place.{size-exact, place-below, place-above}
 use Rattle.floats.proofs.Laws.Order.{bits-of-clear, under-zero}
 use Rattle.floats.proofs.Laws.Sums.{above, under, above-times, under-times, le-says, SizeAtMost}
 use Rattle.floats.proofs.Laws.Units.{exponent, in-units}
-use Rattle.bounds.proofs.Values.{perOne, perOne-pos, plus, less, mag, mag-of, Number, cross, cross-under, joined, Along}
-use Rattle.bounds.proofs.Operation.{limit, mul-near}
-use Rattle.bounds.proofs.Scales.{S, S-pos, unit, one-is, Scale, Bound, within, tested, Through, unit-left, ok, productK, mul-limit, mul-bound, add-bound}
-use Rattle.bounds.proofs.Distances.{Apart, apartK, add-apart, not-below}
+use Rattle.bounds.proofs.Values.{perOne, perOne-pos, plus, less, mag, mag-of, one-side, Number, cross, cross-under, joined, Along}
+use Rattle.bounds.proofs.Operation.{limit, add-near, mul-near}
+use Rattle.bounds.proofs.Sums.{sum-small}
+use Rattle.bounds.proofs.Scales.{S, S-pos, unit, one-is, Scale, Bound, within, tested, Through, unit-left, ok, both-sizes, one-part, small-limit, productK, mul-limit, mul-bound, add-bound}
+use Rattle.bounds.proofs.Distances.{parts, Apart, apartK, add-apart, not-below}
 
 -- ---- the order
 pub le-units : (x y : Float) → Number x → Number y → T (le x y) → plus x + less y ≤ plus y + less x
@@ -118,6 +119,16 @@ pub record Positive (a b : ℕ) (x : Float) : Type 0 where
 pub positive-bound : {a b : ℕ} {x : Float} → Positive a b x → Bound S b x
 positive-bound {a} {b} {x} p = record { scale = unit; number = p .number; size = subst (λ (k : ℕ). plus x + k ≤ b * S) (sym (p .clear)) (le-trans (le-of-eq (add-zero (plus x))) (p .most)) }
 
+-- k taken from a, on a scale
+taken : (a k s : ℕ) → k < a → (a - k) * s ≤ a * s - k * s
+taken a k s h = away ((a - k) * s) (k * s) (a * s) (sym (add-mul (a - k) k s) ∙ ap (λ (z : ℕ). z * s) (back a k h))
+  where
+    back : (a k : ℕ) → k < a → a - k + k ≡ a
+    back a k h = omega arith
+
+    away : (x y z : ℕ) → x + y ≡ z → x ≤ z - y
+    away x y z h = omega arith
+
 -- near a value that is known
 pub positive-near : {a b K : ℕ} {x y : Float} → Number x → Apart S K x y → Positive a b y → T (ltb K a) → Positive (a - K) (b + K) x
 positive-near {a} {b} {K} {x} {y} n d p t =
@@ -127,15 +138,6 @@ positive-near {a} {b} {K} {x} {y} n d p t =
   where
     times : (k a : ℕ) → k < a → k * S < a * S
     times k a h = mul-lt-mul-of-pos-right h S-pos
-
-    taken : (a k s : ℕ) → k < a → (a - k) * s ≤ a * s - k * s
-    taken a k s h = away ((a - k) * s) (k * s) (a * s) (sym (add-mul (a - k) k s) ∙ ap (λ (z : ℕ). z * s) (back a k h))
-      where
-        back : (a k : ℕ) → k < a → a - k + k ≡ a
-        back a k h = omega arith
-
-        away : (x y z : ℕ) → x + y ≡ z → x ≤ z - y
-        away x y z h = omega arith
 
     go : (p n q m a b d : ℕ) → n ≡ 0 → m ≡ 0 → a ≤ q → q ≤ b → p + m ≤ n + q + d → q + n ≤ m + p + d → (a - d ≤ p) × (p ≤ b + d)
     go p n q m a b d e f g h k l = (omega arith, omega arith)
@@ -267,3 +269,32 @@ quotient X u h = (div-mul-le-self X u, div-lt-iff-lt-mul h .0 (one-more (X / u))
   where
     one-more : (q : ℕ) → q < q + 1
     one-more q = omega arith
+
+-- a sum of two positive values
+pub positive-sum : {a b c d : ℕ} {x y : Float} → Positive a b x → Positive c d y → T (ok (b + d)) → T (ltb ((b + d) / 2 ^ 53 + 1) (a + c)) → Positive (a + c - ((b + d) / 2 ^ 53 + 1)) (b + d + ((b + d) / 2 ^ 53 + 1)) (x ⊕ y)
+positive-sum {a} {b} {c} {d} {x} {y} p q t u =
+    let e = (b + d) / 2 ^ 53 + 1 in
+    let D = (b + d) * S in
+    let z = x ⊕ y in
+    let n = add-near D (p .number) (q .number) (sum-small x y D (both-sizes (positive-bound p) (positive-bound q))) (one-part D limit (small-limit (b + d) S t (unit .bounded)) .0) in
+    let r = go (plus x) (less x) (plus y) (less y) (plus z) (less z) (a * S) (b * S) (c * S) (d * S) (e * S) D (one-side z) (p .clear) (q .clear) (p .least) (p .most) (q .least) (q .most) (parts (b + d) S)
+    (lt-of-lt-of-le (mul-lt-mul-of-pos-right (ltb→lt e (a + c) u) S-pos) (le-of-eq (add-mul a c S))) (n .most) (n .least) in
+    record {
+      number = n .number;
+      clear = r .0;
+      least = le-trans (taken (a + c) e S (ltb→lt e (a + c) u)) (le-trans (le-of-eq (ap (λ (k : ℕ). k - e * S) (add-mul a c S))) (r .1));
+      most = le-trans (r .2) (le-of-eq (sym (add-mul (b + d) e S ∙ ap (λ (k : ℕ). k + e * S) (add-mul b d S))));
+    }
+  where
+    past : (X Y D E : ℕ) → D ≤ E * 2 ^ 53 → X * 2 ^ 53 ≤ Y * 2 ^ 53 + D → X ≤ Y + E
+    past X Y D E e h = omega arith
+
+    finish : (p n q m r l a b c d E : ℕ) → (r ≡ 0) ⊎ (l ≡ 0) → n ≡ 0 → m ≡ 0 → a ≤ p → p ≤ b → c ≤ q → q ≤ d → E < a + c → r + (n + m) ≤ l + (p + q) + E → l + (p + q) ≤ r + (n + m) + E
+        → (l ≡ 0) × (a + c - E ≤ r) × (r ≤ b + d + E)
+    finish p n q m r l a b c d E (inl z) N M ap pb cq qd u g h = (omega arith, omega arith, omega arith)
+    finish p n q m r l a b c d E (inr z) N M ap pb cq qd u g h = (omega arith, omega arith, omega arith)
+
+    go : (p n q m r l a b c d E D : ℕ) → (r ≡ 0) ⊎ (l ≡ 0) → n ≡ 0 → m ≡ 0 → a ≤ p → p ≤ b → c ≤ q → q ≤ d → D ≤ E * 2 ^ 53 → E < a + c
+        → (r + (n + m)) * 2 ^ 53 ≤ (l + (p + q)) * 2 ^ 53 + D → (l + (p + q)) * 2 ^ 53 ≤ (r + (n + m)) * 2 ^ 53 + D → (l ≡ 0) × (a + c - E ≤ r) × (r ≤ b + d + E)
+    go p n q m r l a b c d E D z N M ap pb cq qd e u g h =
+        finish p n q m r l a b c d E z N M ap pb cq qd u (past (r + (n + m)) (l + (p + q)) D E e g) (past (l + (p + q)) (r + (n + m)) D E e h)

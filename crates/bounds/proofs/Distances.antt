@@ -42,7 +42,7 @@ abbrev pub apartK : ℕ → ℕ → ℕ
 apartK K L = L + ((K + L) / 2 ^ 53 + 1)
 
 -- d of 2^53 parts
-parts : (k μ : ℕ) → k * μ ≤ (k / 2 ^ 53 + 1) * μ * 2 ^ 53
+pub parts : (k μ : ℕ) → k * μ ≤ (k / 2 ^ 53 + 1) * μ * 2 ^ 53
 parts k μ = le-trans (mul-le-mul-right μ (over k)) (le-of-eq (mul-right-comm (k / 2 ^ 53 + 1) (2 ^ 53) μ))
   where
     over : (a : ℕ) → a ≤ (a / 2 ^ 53 + 1) * 2 ^ 53

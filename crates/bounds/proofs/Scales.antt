@@ -346,3 +346,18 @@ pub sub-small-bound : {μ : ℕ} {x y : Float} (K : ℕ) → Scale μ → Number
 sub-small-bound {μ} {x} {y} K s p q b t =
     let c = sub-near (K * μ) p q b (one-part (K * μ) limit (small-limit K μ t (s .bounded)) .0) in
     record { scale = s; number = c .number; size = rounded-up (mag (x ⊖ y)) K μ (s .positive) (close-mag (K * μ) c b) }
+
+pub add-small-bound : {μ : ℕ} {x y : Float} (K : ℕ) → Scale μ → Number x → Number y → Small (plus x + plus y) (less x + less y) (K * μ) → T (ok K) → Bound μ (K + (K / 2 ^ 53 + 1)) (x ⊕ y)
+add-small-bound {μ} {x} {y} K s p q b t =
+    let c = add-near (K * μ) p q b (one-part (K * μ) limit (small-limit K μ t (s .bounded)) .0) in
+    record { scale = s; number = c .number; size = rounded-up (mag (x ⊕ y)) K μ (s .positive) (close-mag (K * μ) c b) }
+
+-- `ddFmla` where the rounded product and c all but cancel: their sum is at most D
+pub fmla-small : {μ ν π K L C : ℕ} {x y c : Float} (D : ℕ) → Through μ ν π → Bound μ K x → Bound ν L y → Bound π C c → Small (plus (x ⊗ y) + plus c) (less (x ⊗ y) + less c) (D * π)
+    → T (fmlaOk K L C) → T (ok D) → T (ok (fmlaLoK K L C + (D + (D / 2 ^ 53 + 1)))) → Bound π (sumK (fmlaLoK K L C) (D + (D / 2 ^ 53 + 1))) (ddFmla x y c)
+unfolding ddFmla fullAddF64 fromFullExactAdd fromExactMult
+fmla-small {μ} {ν} {π} {K} {L} {C} {x} {y} {c} D t p q r b g d e =
+    let o = fmla-parts K L C g in
+    let m = dekker-bounds t p q (o .0) (o .1) in
+    let s = full-bounds (m .hi) r (o .2) in
+    add-bound (add-bound (m .lo) (s .lo) (o .3)) (add-small-bound D (t .scale) (m .hi .number) (r .number) b d) e
