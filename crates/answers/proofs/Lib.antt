@@ -16,3 +16,4 @@ pub mod WholeBound
 pub mod PowerSlot
 pub mod ExpSign
 pub mod InverseSlot
+pub mod LogSize
