@@ -6,3 +6,4 @@ pub mod Products
 pub mod Scales
 pub mod Distances
 pub mod Compared
+pub mod Exactly

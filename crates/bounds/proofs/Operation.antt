@@ -139,7 +139,7 @@ pub record Same (z v : Float) : Type 0 where
   pub less-same : less z ≡ less v
 
 -- the size of v, with the sign s, rounds to itself
-round-held : (s : Bool) (v : Float) → Number v → Units s (mag v) (round binary64 s (mag v) perOne)
+pub round-held : (s : Bool) (v : Float) → Number v → Units s (mag v) (round binary64 s (mag v) perOne)
 unfolding perOne
 round-held s nan h = absurd (h .plain)
 round-held s (inf t) h = absurd (h .plain)
@@ -193,7 +193,7 @@ least-times n k w W h =
     le-of-mul-le-mul-right g W
 
 -- of less than a half of a unit nothing is left
-nothing : (n k w : ℕ) → 0 < w → k ≡ 0 → n * w * 2 ^ 53 ≤ k * 2 ^ 53 + k + w * 2 ^ 52 → n ≡ 0
+pub nothing : (n k w : ℕ) → 0 < w → k ≡ 0 → n * w * 2 ^ 53 ≤ k * 2 ^ 53 + k + w * 2 ^ 52 → n ≡ 0
 nothing zero k w W e h = refl
 nothing (suc n) k w W e h = absurd (no (n * w) w W (omega arith))
   where
@@ -210,7 +210,7 @@ along-zero false true z u = ap (λ (n : ℕ). n + 0) (u .plus-is)
 along-zero true false z u = ap (λ (n : ℕ). 0 + n) (u .less-is)
 along-zero true true z u = ap (λ (n : ℕ). n + 0) (u .plus-is)
 
-units-mag : {s : Bool} {k : ℕ} {z : Float} → Units s k z → mag z ≡ k
+pub units-mag : {s : Bool} {k : ℕ} {z : Float} → Units s k z → mag z ≡ k
 units-mag {s} {k} {z} u = ap₂ _+_ (u .plus-is) (u .less-is) ∙ mag-of s k
 
 multiplied : (x y z : Float) (s : Bool) (n : ℕ) → Units s n z

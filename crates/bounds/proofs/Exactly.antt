@@ -1,0 +1,415 @@
+-- Operations that lose nothing. Addition is commutative (`add-turned`). A difference of whole numbers of 2^-53, of fewer than 2^53 in size, is exact
+-- (`counted`): so is u - 1 for a u from 1/2 to 3/2, as a plain difference (`minus-one`) and by `ddFmla` (`fmla-minus-one`), whose product with 1 is exact
+-- (`one-times`, `dekker-one`) and whose full add of an exact sum leaves no error (`full-exact`). Assumes nothing.
+use mathlib.Core.Path.{_≡_, refl, sym, ap, ap₂, _∙_, subst}
+use mathlib.Core.Logic.{_⊎_, inl, inr}
+use mathlib.Core.Bool.{Bool, true, false, not, cond}
+use Prim.Native.Nat.{ℕ, zero, suc, _+_, _-_, _*_, _^_, _≤_, _<_}
+use native.Mathlib.Nat.{le-refl, le-trans, le-of-eq, lt-of-lt-of-le, lt-irrefl, le-of-mul-le-mul-right, mul-comm, mul-assoc, mul-le-mul-right, mul-pos, add-le-add, add-mul, zero-mul, add-zero, zero-add, not-le-of-lt, zero-lt-suc}
+use native.Mathlib.Omega.{arith}
+use lib.Dec.{T, leb, ltb, leb→le, nleb→lt, ltb→lt, nltb→le, lit≤, lit<}
+use lib.IntN.{pos}
+use lib.Pow.{pow-add, pow-pos, pow-mono, shl-lt}
+use lib.Ieee.{Float, nan, inf, fin, Format, binary64, up, down, round, neg, sum, add, sub, mul, fits}
+use lib.Ieee.Exact.{round-exact}
+use lib.Ieee.Fits.{round-fits}
+use lib.Ieee.Scale.{round-same}
+use Rattle.floats.specs.Operations.{_⊕_, _⊖_, _⊗_}
+use Rattle.floats.proofs.Laws.Rounding.{neg-round}
+use Rattle.floats.proofs.Laws.Units.{exponent, fits-digits}
+use Rattle.floats.proofs.Laws.Sums.{above, under, Signed, Rounded}
+use Rattle.double_double.specs.declared.DoubleDouble.{DoubleDouble}
+use Rattle.double_double.specs.DoubleDouble.{split, fromExactMult, fromFullExactAdd, fullAddF64, ddFmla}
+use Rattle.bounds.proofs.Values.{perOne, perOne-pos, plus, less, mag, Number, neg-plus, neg-less, neg-number, Units, by-value, sum-in-units, Along, Product, product-in-units}
+use Rattle.bounds.proofs.Operation.{limit, round-held, Same, add-exact, sub-exact, nothing, mul-near, units-mag}
+use Rattle.bounds.proofs.Products.{direction, split-near}
+use Rattle.bounds.proofs.Scales.{S, S-pos}
+use Rattle.bounds.proofs.Compared.{Positive, positive-bound}
+
+-- ---- addition is commutative
+swap : (a b : ℕ) → a + b ≡ b + a
+swap a b = omega arith
+
+-- a - b and -b + a
+opposite : (f : Format) (a b c : ℕ) (u : Bool) → (T u → a < b) → (T (not u) → b ≤ a) → (v : Bool) → (T v → b < a) → (T (not v) → a ≤ b)
+    → cond u (round f true (b - a) c) (round f false (a - b) c) ≡ cond v (round f false (a - b) c) (round f u (b - a) c)
+opposite f a b c true l g true m h = absurd (no (l tt) (m tt))
+  where
+    no : a < b → b < a → ⊥
+    no p q = omega (arith, p, q)
+opposite f a b c true l g false m h = refl
+opposite f a b c false l g true m h = refl
+opposite f a b c false l g false m h = ap (λ (k : ℕ). round f false k c) (equal (g tt) (h tt))
+  where
+    equal : b ≤ a → a ≤ b → a - b ≡ b - a
+    equal p q = omega (arith, p, q)
+
+sum-turned : (f : Format) (s : Bool) (a : ℕ) (t : Bool) (b c : ℕ) → sum f s a t b c ≡ sum f t b s a c
+unfolding sum
+sum-turned f false a false b c = ap (λ (k : ℕ). round f false k c) (swap a b)
+sum-turned f true a true b c = ap (λ (k : ℕ). round f true k c) (swap a b)
+sum-turned f false a true b c = opposite f a b c (ltb a b) (ltb→lt a b) (nltb→le a b) (ltb b a) (ltb→lt b a) (nltb→le b a)
+sum-turned f true a false b c = sym (opposite f b a c (ltb b a) (ltb→lt b a) (nltb→le b a) (ltb a b) (ltb→lt a b) (nltb→le a b))
+
+pub add-turned : (f : Format) (x y : Float) → add f x y ≡ add f y x
+unfolding add
+add-turned f nan nan = refl
+add-turned f nan (inf t) = refl
+add-turned f nan (fin t n d) = refl
+add-turned f (inf s) nan = refl
+add-turned f (inf false) (inf false) = refl
+add-turned f (inf false) (inf true) = refl
+add-turned f (inf true) (inf false) = refl
+add-turned f (inf true) (inf true) = refl
+add-turned f (inf s) (fin t n d) = refl
+add-turned f (fin s m e) nan = refl
+add-turned f (fin s m e) (inf t) = refl
+add-turned f (fin s m e) (fin t n d) =
+    sum-turned f s (m * up e * down d) t (n * up d * down e) (down e * down d) ∙ ap (λ (c : ℕ). sum f t (n * up d * down e) s (m * up e * down d) c) (mul-comm (down e) (down d))
+
+-- ---- 1, -1 and 0
+abbrev one : Float
+one = fin false 1 (pos 0)
+
+abbrev minusOne : Float
+minusOne = fin true 1 (pos 0)
+
+abbrev naught : Float
+naught = fin false 0 (pos 0)
+
+one-number : Number one
+one-number = record { held = unfold fits in tt; plain = tt }
+
+minus-one-number : Number minusOne
+minus-one-number = record { held = unfold fits in tt; plain = tt }
+
+naught-number : Number naught
+naught-number = record { held = unfold fits in tt; plain = tt }
+
+one-mag : mag one ≡ perOne
+unfolding perOne
+one-mag = refl
+
+minus-one-less : less minusOne ≡ 2 ^ 53 * S
+unfolding S
+minus-one-less = refl
+
+-- ---- a difference of whole numbers of 2^-53
+-- z is p - n, exactly, and a whole number of 2^-53
+record Counted (p n : ℕ) (z : Float) : Type 0 where
+  number : Number z
+  is : plus z + n ≡ less z + p
+  parts : ℕ
+  grid : mag z ≡ parts * S
+
+-- q × 2^-53 with fewer than 53 digits
+round-counted : (s : Bool) (k q : ℕ) → q < 2 ^ 53 → k ≡ q * S → Units s k (round binary64 s k perOne)
+unfolding perOne S
+round-counted s k q h e =
+    by-value (round binary64 s k (2 ^ 1074)) s k (round-fits binary64 s k (2 ^ 1074))
+    (round-exact binary64 s k (2 ^ 1074) q 1021 (pow-pos 1074) h (lt-of-lt-of-le (shl-lt 53 1021 h) (lit≤ tt)) (ap (λ (z : ℕ). z * 2 ^ 1074) e))
+
+signed-units : (s : Bool) (k p n : ℕ) (z : Float) → Signed s k p n → Units s k z → plus z + n ≡ less z + p
+signed-units false k p n z e u = ap (λ (a : ℕ). a + n) (u .plus-is) ∙ e ∙ sym (ap (λ (b : ℕ). b + p) (u .less-is) ∙ zero-add p)
+signed-units true k p n z e u = ap (λ (a : ℕ). a + n) (u .plus-is) ∙ zero-add n ∙ sym e ∙ ap (λ (b : ℕ). b + p) (sym (u .less-is))
+
+-- k is fewer than 2^53 of 2^-53
+record Few (k : ℕ) : Type 0 where
+  parts : ℕ
+  small : parts < 2 ^ 53
+  is : k ≡ parts * S
+
+few-of : (k P N : ℕ) → k + N * S ≡ P * S → P < N + 2 ^ 53 → Few k
+few-of k P N e h =
+    let order : N ≤ P = le-of-mul-le-mul-right (over k (N * S) (P * S) e) S-pos in
+    record { parts = P - N; small = near P N h; is = cancel k (N * S) ((P - N) * S) (P * S) e (sym (add-mul (P - N) N S) ∙ ap (λ (z : ℕ). z * S) (back P N order)) }
+  where
+    over : (a b d : ℕ) → a + b ≡ d → b ≤ d
+    over a b d h = omega arith
+
+    near : (P N : ℕ) → P < N + 2 ^ 53 → P - N < 2 ^ 53
+    near P N h = omega arith
+
+    back : (q r : ℕ) → r ≤ q → q - r + r ≡ q
+    back q r h = omega arith
+
+    cancel : (a b d f : ℕ) → a + b ≡ f → d + b ≡ f → a ≡ d
+    cancel a b d f g h = omega arith
+
+few-signed : (s : Bool) (k P N : ℕ) → Signed s k (P * S) (N * S) → P < N + 2 ^ 53 → N < P + 2 ^ 53 → Few k
+few-signed false k P N e h g = few-of k P N e h
+few-signed true k P N e h g = few-of k N P e g
+
+counted : {z : Float} (P N : ℕ) → Rounded binary64 (P * S) (N * S) perOne z → P < N + 2 ^ 53 → N < P + 2 ^ 53 → Counted (P * S) (N * S) z
+counted {z} P N R h g =
+    let w = few-signed (R .sign) (R .digits) P N (R .exact) h g in
+    let u : Units (R .sign) (R .digits) z = subst (Units (R .sign) (R .digits)) (sym (R .is)) (round-counted (R .sign) (R .digits) (w .parts) (w .small) (w .is)) in
+    record { number = u .number; is = signed-units (R .sign) (R .digits) (P * S) (N * S) z (R .exact) u; parts = w .parts; grid = units-mag u ∙ w .is }
+
+-- ---- from 1/2 to 3/2 an f64 is a whole number of 2^-53
+record Around (u : Float) : Type 0 where
+  parts : ℕ
+  is : plus u ≡ parts * S
+  least : 2 ^ 52 ≤ parts
+  most : parts ≤ 3 * 2 ^ 52
+
+-- m × 2^k with fewer than 53 digits in m
+deep : (m k : ℕ) → m < 2 ^ 53 → 2 ^ 52 * S ≤ m * 2 ^ k → 1021 ≤ k
+unfolding S
+deep m k h l = go (leb 1021 k) (leb→le 1021 k) (nleb→lt 1021 k)
+  where
+    up-to : (k : ℕ) → k < 1021 → 53 + k ≤ 1073
+    up-to k h = omega arith
+
+    go : (b : Bool) → (T b → 1021 ≤ k) → (T (not b) → k < 1021) → 1021 ≤ k
+    go true y n = y tt
+    go false y n = absurd (not-le-of-lt (lt-of-lt-of-le (shl-lt 53 k h) (le-trans (pow-mono (up-to k (n tt))) (lit≤ tt))) l)
+
+multiple : (m k : ℕ) → 1021 ≤ k → m * 2 ^ k ≡ m * 2 ^ (k - 1021) * S
+unfolding S
+multiple m k h = ap (λ (i : ℕ). m * 2 ^ i) (back k h) ∙ ap (λ (i : ℕ). m * i) (pow-add 2 (k - 1021) 1021) ∙ sym (mul-assoc m (2 ^ (k - 1021)) (2 ^ 1021))
+  where
+    back : (k : ℕ) → 1021 ≤ k → k ≡ k - 1021 + 1021
+    back k h = omega arith
+
+around : {u : Float} → Positive (2 ^ 52) (3 * 2 ^ 52) u → Around u
+around {u} p = go u (p .number) (p .least) (p .most)
+  where
+    go : (u : Float) → Number u → 2 ^ 52 * S ≤ plus u → plus u ≤ 3 * 2 ^ 52 * S → Around u
+    go nan n l m = absurd (n .plain)
+    go (inf s) n l m = absurd (n .plain)
+    go (fin true k e) n l m = absurd (not-le-of-lt (mul-pos (lit< tt) S-pos) l)
+    go (fin false k e) n l m =
+        let is = multiple k (exponent 1074 e) (deep k (exponent 1074 e) (fits-digits binary64 false k e (n .held)) l) in
+        record {
+          parts = k * 2 ^ (exponent 1074 e - 1021);
+          is = is;
+          least = le-of-mul-le-mul-right (le-trans l (le-of-eq is)) S-pos;
+          most = le-of-mul-le-mul-right (le-trans (le-of-eq (sym is)) m) S-pos;
+        }
+
+-- z is u - 1, exactly, and a whole number of 2^-53
+pub record Off (u z : Float) : Type 0 where
+  pub number : Number z
+  pub is : plus z + 2 ^ 53 * S ≡ less z + plus u
+  pub parts : ℕ
+  pub grid : mag z ≡ parts * S
+
+-- the sum of -1 and r, the same number as u
+off : {u : Float} (r : Float) → Positive (2 ^ 52) (3 * 2 ^ 52) u → Same r u → Off u (r ⊕ minusOne)
+off {u} r p same =
+    let a = around p in
+    let above-it : plus r + plus minusOne ≡ a .parts * S = ap (λ (k : ℕ). k + plus minusOne) (same .plus-same ∙ a .is) ∙ add-zero (a .parts * S) in
+    let below-it : less r + less minusOne ≡ 2 ^ 53 * S = ap₂ _+_ (same .less-same ∙ p .clear) minus-one-less ∙ zero-add (2 ^ 53 * S) in
+    let R : Rounded binary64 (a .parts * S) (2 ^ 53 * S) perOne (r ⊕ minusOne) =
+    subst (λ (k : ℕ). Rounded binary64 k (2 ^ 53 * S) perOne (r ⊕ minusOne)) above-it
+    (subst (λ (k : ℕ). Rounded binary64 (plus r + plus minusOne) k perOne (r ⊕ minusOne)) below-it (sum-in-units r minusOne (same .number) minus-one-number)) in
+    let w = range (a .parts) (a .least) (a .most) in
+    let c = counted (a .parts) (2 ^ 53) R (w .0) (w .1) in
+    record { number = c .number; is = c .is ∙ ap (λ (k : ℕ). less (r ⊕ minusOne) + k) (sym (a .is)); parts = c .parts; grid = c .grid }
+  where
+    range : (U : ℕ) → 2 ^ 52 ≤ U → U ≤ 3 * 2 ^ 52 → (U < 2 ^ 53 + 2 ^ 53) × (2 ^ 53 < U + 2 ^ 53)
+    range U l m = (omega arith, omega arith)
+
+itself : {u : Float} → Number u → Same u u
+itself n = record { number = n; plus-same = refl; less-same = refl }
+
+pub minus-one : (u : Float) → Positive (2 ^ 52) (3 * 2 ^ 52) u → Off u (u ⊖ one)
+unfolding sub neg
+minus-one u p = off u p (itself (p .number))
+
+-- ---- 1 × x is x
+-- a value along the sign s, and 0 with any sign
+along-parts : (s : Bool) (p m : ℕ) → under s p + above s m ≡ 0 → (above s (p + m) ≡ p) × (under s (p + m) ≡ m)
+along-parts false p m h = (omega arith, omega arith)
+along-parts true p m h = (omega arith, omega arith)
+
+no-parts : (s : Bool) (p m : ℕ) → p + m ≡ 0 → (above s (p + m) ≡ p) × (under s (p + m) ≡ m)
+no-parts false p m h = (omega arith, omega arith)
+no-parts true p m h = (omega arith, omega arith)
+
+no-factor : (w a : ℕ) → 0 < w → w * a ≡ 0 → a ≡ 0
+no-factor w zero h e = refl
+no-factor w (suc a) h e = absurd (lt-irrefl 0 (lt-of-lt-of-le (mul-pos h (zero-lt-suc a)) (le-of-eq e)))
+
+one-times : (x : Float) → Number x → Same (one ⊗ x) x
+one-times x n = go (direction x)
+  where
+    P : Product one x
+    P = product-in-units one x one-number n
+
+    move : (a w : ℕ) → w * a * w ≡ a * (w * w)
+    move a w = ap (λ (z : ℕ). z * w) (mul-comm w a) ∙ mul-assoc a w w
+
+    is : one ⊗ x ≡ round binary64 (P .sign) (mag x) perOne
+    is =
+        P .is
+        ∙ ap (λ (k : ℕ). round binary64 (P .sign) (k * mag x) (perOne * perOne)) one-mag
+        ∙ round-same binary64 (P .sign) (perOne * mag x) (perOne * perOne) (mag x) perOne (mul-pos perOne-pos perOne-pos) perOne-pos (move (mag x) perOne)
+
+    units : Units (P .sign) (mag x) (one ⊗ x)
+    units = subst (Units (P .sign) (mag x)) (sym is) (round-held (P .sign) x n)
+
+    parts : (t : Bool) → Along t x → (P .sign ≡ t) ⊎ (mag one * mag x ≡ 0) → (above (P .sign) (mag x) ≡ plus x) × (under (P .sign) (mag x) ≡ less x)
+    parts t a (inl e) = subst (λ (s : Bool). (above s (mag x) ≡ plus x) × (under s (mag x) ≡ less x)) (sym e) (along-parts t (plus x) (less x) a)
+    parts t a (inr e) = no-parts (P .sign) (plus x) (less x) (no-factor perOne (mag x) perOne-pos (ap (λ (k : ℕ). k * mag x) (sym one-mag) ∙ e))
+
+    same : (above (P .sign) (mag x) ≡ plus x) × (under (P .sign) (mag x) ≡ less x) → Same (one ⊗ x) x
+    same e = record { number = units .number; plus-same = units .plus-is ∙ e .0; less-same = units .less-is ∙ e .1 }
+
+    go : Along true x ⊎ Along false x → Same (one ⊗ x) x
+    go (inl a) = same (parts true a (P .toward false true refl a))
+    go (inr a) = same (parts false a (P .toward false false refl a))
+
+-- ---- 0 × x is 0, and 0 + 0
+no-size : (p n : ℕ) → p + n ≡ 0 → (p ≡ 0) × (n ≡ 0)
+no-size p n h = (omega arith, omega arith)
+
+naught-times : (x : Float) → Number x → Same (naught ⊗ x) naught
+naught-times x n =
+    let no-product : mag naught * mag x ≡ 0 = zero-mul (mag x) in
+    let m = mul-near naught-number n (subst (λ (k : ℕ). k ≤ limit * perOne) (sym no-product) (from-zero (limit * perOne))) in
+    let e = no-size (plus (naught ⊗ x)) (less (naught ⊗ x)) (nothing (mag (naught ⊗ x)) (mag naught * mag x) perOne perOne-pos no-product (m .most)) in
+    record { number = m .number; plus-same = e .0; less-same = e .1 }
+  where
+    from-zero : (a : ℕ) → 0 ≤ a
+    from-zero a = omega arith
+
+naught-sum : {x y : Float} → Same x naught → Same y naught → Same (x ⊕ y) naught
+naught-sum {x} {y} a b =
+    add-exact (a .number) (b .number) naught-number (ap₂ (λ (i j : ℕ). i + j + 0) (a .plus-same) (b .plus-same) ∙ sym (ap₂ (λ (i j : ℕ). i + j + 0) (a .less-same) (b .less-same)))
+
+-- ---- p - n and n - p round to opposite values
+record Opposite (z w : Float) : Type 0 where
+  number : Number w
+  plus-is : plus w ≡ less z
+  less-is : less w ≡ plus z
+
+negated : (s : Bool) (k l : ℕ) → k ≡ l → Number (round binary64 s k perOne) → Opposite (round binary64 s k perOne) (round binary64 (not s) l perOne)
+negated s k l e h =
+    subst (λ (j : ℕ). Opposite (round binary64 s k perOne) (round binary64 (not s) j perOne)) e
+    (subst (Opposite (round binary64 s k perOne)) (neg-round binary64 s k perOne)
+    (record { number = neg-number h; plus-is = neg-plus (round binary64 s k perOne); less-is = neg-less (round binary64 s k perOne) }))
+
+both-none : (s t : Bool) (k l : ℕ) → k ≡ 0 → l ≡ 0 → Opposite (round binary64 s k perOne) (round binary64 t l perOne)
+both-none s t k l e d =
+    let z = round binary64 s k perOne in
+    let w = round binary64 t l perOne in
+    let u = round-counted t l 0 (lit< tt) (d ∙ sym (zero-mul S)) in
+    let i = no-size (plus z) (less z) (units-mag (round-counted s k 0 (lit< tt) (e ∙ sym (zero-mul S))) ∙ e) in
+    let j = no-size (plus w) (less w) (units-mag u ∙ d) in
+    record { number = u .number; plus-is = j .0 ∙ sym (i .1); less-is = j .1 ∙ sym (i .0) }
+
+level : (k l n p : ℕ) → k + n ≡ p → l + n ≡ p → k ≡ l
+level k l n p e d = omega arith
+
+none : (k l p n : ℕ) → k + n ≡ p → l + p ≡ n → (k ≡ 0) × (l ≡ 0)
+none k l p n e d = (omega arith, omega arith)
+
+round-opposite : (s t : Bool) (k l p n : ℕ) → Signed s k p n → Signed t l n p → Number (round binary64 s k perOne) → Opposite (round binary64 s k perOne) (round binary64 t l perOne)
+round-opposite false true k l p n e d h = negated false k l (level k l n p e d) h
+round-opposite true false k l p n e d h = negated true k l (level k l p n e d) h
+round-opposite false false k l p n e d h = both-none false false k l (none k l p n e d .0) (none k l p n e d .1)
+round-opposite true true k l p n e d h = both-none true true k l (none k l n p e d .0) (none k l n p e d .1)
+
+rounded-opposite : {p n : ℕ} {z w : Float} → Rounded binary64 p n perOne z → Rounded binary64 n p perOne w → Number z → Opposite z w
+rounded-opposite {p} {n} {z} {w} R Q h =
+    subst (λ (y : Float). Opposite y w) (sym (R .is))
+    (subst (Opposite (round binary64 (R .sign) (R .digits) perOne)) (sym (Q .is))
+    (round-opposite (R .sign) (Q .sign) (R .digits) (Q .digits) p n (R .exact) (Q .exact) (subst Number (R .is) h)))
+
+-- x - y, rounded
+difference-in-units : (x y : Float) → Number x → Number y → Rounded binary64 (plus x + less y) (less x + plus y) perOne (x ⊖ y)
+unfolding sub
+difference-in-units x y p q =
+    subst (λ (k : ℕ). Rounded binary64 (plus x + k) (less x + plus y) perOne (x ⊕ neg y)) (neg-plus y)
+    (subst (λ (k : ℕ). Rounded binary64 (plus x + plus (neg y)) (less x + k) perOne (x ⊕ neg y)) (neg-less y) (sum-in-units x (neg y) p (neg-number q)))
+
+-- y' - x' is the opposite of x - y, for the same numbers
+turned-difference : (x y : Float) {v w : Float} → Number x → Number y → Same v x → Same w y → Number (x ⊖ y) → Opposite (x ⊖ y) (w ⊖ v)
+turned-difference x y {v} {w} p q a b n =
+    let R : Rounded binary64 (less x + plus y) (plus x + less y) perOne (w ⊖ v) =
+    subst (λ (k : ℕ). Rounded binary64 k (plus x + less y) perOne (w ⊖ v)) (ap₂ _+_ (b .plus-same) (a .less-same) ∙ swap (plus y) (less x))
+    (subst (λ (k : ℕ). Rounded binary64 (plus w + less v) k perOne (w ⊖ v)) (ap₂ _+_ (b .less-same) (a .plus-same) ∙ swap (less y) (plus x)) (difference-in-units w v (b .number) (a .number))) in
+    rounded-opposite (difference-in-units x y p q) R n
+
+-- ---- Dekker's product of 1 and u: u, and no error
+split-one : split one ≡ record { lo = naught; hi = one }
+unfolding split sub add mul
+split-one = refl
+
+error-of-one : (u h r : Float) → Number u → Number h → Number (u ⊖ h) → Same r u → Same (naught ⊗ (u ⊖ h) ⊕ (naught ⊗ h ⊕ (one ⊗ (u ⊖ h) ⊕ (one ⊗ h ⊖ r)))) naught
+error-of-one u h r p q n same =
+    let l = one-times (u ⊖ h) n in
+    let t = turned-difference u h p q same (one-times h q) n in
+    let t2 = add-exact (l .number) (t .number) naught-number
+    (ap₂ (λ (i j : ℕ). i + j + 0) (l .plus-same) (t .plus-is) ∙ ap (λ (i : ℕ). i + 0) (swap (plus (u ⊖ h)) (less (u ⊖ h))) ∙ sym (ap₂ (λ (i j : ℕ). i + j + 0) (l .less-same) (t .less-is))) in
+    naught-sum (naught-times (u ⊖ h) n) (naught-sum (naught-times h q) t2)
+
+record TimesOne (u : Float) (r : DoubleDouble) : Type 0 where
+  hi : Same (r .hi) u
+  lo : Same (r .lo) naught
+
+dekker-one : (u : Float) → Number u → (mag u + 1) * 2 ^ 28 ≤ limit → TimesOne u (fromExactMult one u)
+unfolding fromExactMult split
+dekker-one u p l =
+    let h = split-near p l in
+    let same = one-times u p in
+    record {
+      hi = same;
+      lo = subst (λ (s : DoubleDouble). Same (s .lo ⊗ split u .lo ⊕ (s .lo ⊗ split u .hi ⊕ (s .hi ⊗ split u .lo ⊕ (s .hi ⊗ split u .hi ⊖ one ⊗ u)))) naught) (sym split-one)
+          (error-of-one u (split u .hi) (one ⊗ u) p (h .hi-number) (h .lo-number) same);
+    }
+
+-- ---- the full add of an exact sum has no error
+level-difference : {x y : Float} → Number x → Same y x → Same (x ⊖ y) naught
+level-difference {x} {y} p same = sub-exact p (same .number) naught-number (ap (λ (i : ℕ). i + 0) (ap (λ (i : ℕ). plus x + i) (same .less-same) ∙ swap (plus x) (less x) ∙ ap (λ (i : ℕ). less x + i) (sym (same .plus-same))))
+
+full-exact : {a b : Float} → Number a → Number b → Number (a ⊕ b) → plus (a ⊕ b) + less a + less b ≡ less (a ⊕ b) + plus a + plus b → Same (fromFullExactAdd a b .lo) naught
+unfolding fromFullExactAdd
+full-exact {a} {b} p q n e =
+    let t1 : Same (a ⊕ b ⊖ a) b = sub-exact n p q e in
+    let t2 : Same (a ⊕ b ⊖ (a ⊕ b ⊖ a)) a = sub-exact n (t1 .number) p
+    (ap (λ (i : ℕ). plus (a ⊕ b) + i + less a) (t1 .less-same) ∙ last (plus (a ⊕ b)) (less b) (less a) ∙ e ∙ last (less (a ⊕ b)) (plus a) (plus b) ∙ ap (λ (i : ℕ). less (a ⊕ b) + i + plus a) (sym (t1 .plus-same))) in
+    naught-sum (level-difference q t1) (level-difference p t2)
+  where
+    last : (x y z : ℕ) → x + y + z ≡ x + z + y
+    last x y z = omega arith
+
+-- ---- `ddFmla` of 1, u and -1
+same-off : {u h z : Float} → Off u h → Same z h → Off u z
+same-off {u} {h} {z} o s = record {
+  number = s .number;
+  is = ap (λ (i : ℕ). i + 2 ^ 53 * S) (s .plus-same) ∙ o .is ∙ ap (λ (i : ℕ). i + plus u) (sym (s .less-same));
+  parts = o .parts;
+  grid = ap₂ _+_ (s .plus-same) (s .less-same) ∙ o .grid;
+}
+
+-- nothing plus h
+naught-plus : {l h : Float} → Same l naught → Number h → Same (l ⊕ h) h
+naught-plus {l} {h} s n = add-exact (s .number) n n (ap (λ (i : ℕ). i + plus h + less h) (s .plus-same) ∙ go (plus h) (less h) ∙ ap (λ (i : ℕ). i + less h + plus h) (sym (s .less-same)))
+  where
+    go : (p n : ℕ) → 0 + p + n ≡ 0 + n + p
+    go p n = omega arith
+
+-- what is at most 3/2 splits
+in-limit : (m : ℕ) → m ≤ 3 * 2 ^ 52 * S → (m + 1) * 2 ^ 28 ≤ limit
+unfolding S limit
+in-limit m h = le-trans (mul-le-mul-right (2 ^ 28) (add-le-add h (le-refl 1))) (lit≤ tt)
+
+off-exact : {u r : Float} → Positive (2 ^ 52) (3 * 2 ^ 52) u → Same r u → Off u (r ⊕ minusOne) → plus (r ⊕ minusOne) + less r + less minusOne ≡ less (r ⊕ minusOne) + plus r + plus minusOne
+off-exact {u} {r} p s o =
+    ap₂ (λ (i j : ℕ). plus (r ⊕ minusOne) + i + j) (s .less-same ∙ p .clear) minus-one-less
+    ∙ ap (λ (i : ℕ). i + 2 ^ 53 * S) (add-zero (plus (r ⊕ minusOne)))
+    ∙ o .is
+    ∙ ap (λ (i : ℕ). less (r ⊕ minusOne) + i) (sym (s .plus-same))
+    ∙ sym (add-zero (less (r ⊕ minusOne) + plus r))
+
+pub fmla-minus-one : (u : Float) → Positive (2 ^ 52) (3 * 2 ^ 52) u → Off u (ddFmla one u minusOne)
+unfolding ddFmla fullAddF64 fromFullExactAdd
+fmla-minus-one u p =
+    let m = dekker-one u (p .number) (in-limit (mag u) (positive-bound p .size)) in
+    let r = fromExactMult one u .hi in
+    let o = off r p (m .hi) in
+    let e = full-exact (m .hi .number) minus-one-number (o .number) (off-exact p (m .hi) o) in
+    same-off o (naught-plus (naught-sum (m .lo) e) (o .number))
