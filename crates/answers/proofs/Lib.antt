@@ -17,3 +17,4 @@ pub mod PowerSlot
 pub mod ExpSign
 pub mod InverseSlot
 pub mod LogSize
+pub mod Logs

@@ -3,7 +3,7 @@
 -- (`near`), where z is 1 + x less 1 and both logarithms are on the scale of z. Assumes nothing.
 use mathlib.Core.Path.{_≡_, refl, sym, ap, ap₂, _∙_, subst}
 use Prim.Native.Nat.{ℕ, zero, suc, _+_, _-_, _*_, _/_, _^_, _≤_, _<_}
-use native.Mathlib.Nat.{le-refl, le-trans, le-of-eq, lt-of-lt-of-le, mul-assoc, mul-comm, mul-right-comm, mul-le-mul-right, mul-le-mul, mul-pos, zero-mul, one-mul, add-mul}
+use native.Mathlib.Nat.{le-refl, le-trans, le-of-eq, lt-of-lt-of-le, mul-assoc, mul-comm, mul-right-comm, mul-le-mul-right, mul-le-mul, mul-pos, zero-mul, one-mul, le-add-right, le-of-mul-le-mul-right}
 use native.Mathlib.Omega.{arith}
 use lib.Dec.{T, lit≤, lit<}
 use lib.Pow.{pow-pos}
@@ -15,7 +15,7 @@ use Rattle.compound.specs.Slow.{log2Poly2, sumOfLogs}
 use Rattle.bounds.proofs.Values.{perOne, perOne-pos, plus, less, mag, Number}
 use Rattle.bounds.proofs.Operation.{limit, mul-near}
 use Rattle.bounds.proofs.Scales.{S, S-pos, one-is, unit, unit-left, unit-right, Scale, Bound, Bounds, at, onto, ok, add-bound, mul-bound, mul-limit}
-use Rattle.bounds.proofs.Distances.{add-apart, add-apart-right, not-less}
+use Rattle.bounds.proofs.Distances.{apart-at, apart-through, add-apart, add-apart-right, not-less}
 use Rattle.bounds.proofs.Compared.{Positive, positive-bound}
 use Rattle.answers.proofs.LogSize.{factor, fast-is, fast-factor, poly-size, logs-size}
 
@@ -61,19 +61,164 @@ module _ (E : ℕ) (least : 1 ≤ E) (most : E ≤ 150) where
   wider : {K : ℕ} {x : Float} → Bound S K x → Bound ν K x
   wider {K} b = onto ν K wide b (mul-le-mul (le-refl K) S-le)
 
+  e-size : E * perOne ≡ 2 ^ 53 * ν
+  unfolding ν
+  e-size = ap (λ (k : ℕ). E * k) one-is ∙ go E S
+    where
+      go : (e s : ℕ) → e * (s * 2 ^ 53) ≡ 2 ^ 53 * (e * s)
+      go e s = omega arith
+
+  -- a number on the scale of E, on that of 1, and on a quarter of its own
+  on-one : (K M : ℕ) → K * 150 ≤ M → K * ν ≤ M * S
+  unfolding ν
+  on-one K M h = le-trans (mul-le-mul (le-refl K) (mul-le-mul-right S most)) (le-trans (le-of-eq (sym (mul-assoc K 150 S))) (mul-le-mul-right S h))
+
+  quartered : (K M : ℕ) → K * 4 ≤ M → K * ν ≤ M * μ
+  quartered K M h = le-trans (le-of-eq (ap (λ (k : ℕ). K * k) quarter ∙ sym (mul-assoc K 4 μ))) (mul-le-mul-right μ h)
+
   pub far-whole : {e w : Float} {a b : DoubleDouble} → Number e → mag e ≡ E * perOne → Bound S (35 * 2 ^ 47) w → Bounds S (33 * 2 ^ 47) 1 a → Bounds S (2 ^ 48 + 2 ^ 38) (2 ^ 27) b
       → Logs (e ⊕ w) (sumOfLogs e a b)
   far-whole {e} {w} {a} {b} n m p q r =
       let one : Bound ν (2 ^ 53) e = record { scale = wide; number = n; size = le-of-eq (m ∙ e-size) } in
       let sum = add-bound one (wider p) tt in
       let logs = logs-size one (record { hi = wider (q .hi); lo = wider (q .lo) }) (record { hi = wider (r .hi); lo = wider (r .lo) }) tt in
+      let off = apart-at (39 * 2 ^ 47) (add-apart one (wider p) tt) tt in
       record {
         μ = μ;
         scale = narrow;
-        size = from-e (mag e) (mag (e ⊕ w)) μ (m ∙ e-size ∙ ap (λ (k : ℕ). 2 ^ 53 * k) quarter) (subst (λ (k : ℕ). mag e ≤ mag (e ⊕ w) + _ * k) quarter (not-less (add-apart one (wider p) tt)));
-        above = onto S (2 ^ 62) unit sum (le-trans (mul-le-mul-right ν (lit≤ tt)) e-bound);
-        accurate = onto-both μ (72 * 2 ^ 53) (2 ^ 35) narrow logs (quartered _ _ (lit≤ tt)) (quartered _ _ (lit≤ tt));
+        size = from-e (mag e) (mag (e ⊕ w)) μ (m ∙ e-size ∙ ap (λ (k : ℕ). 2 ^ 53 * k) quarter) (subst (λ (k : ℕ). mag e ≤ mag (e ⊕ w) + 39 * 2 ^ 47 * k) quarter (not-less off));
+        above = onto S (2 ^ 62) unit sum (on-one _ (2 ^ 62) (lit≤ tt));
+        accurate = onto-both μ (72 * 2 ^ 53) (2 ^ 35) narrow logs (quartered _ (72 * 2 ^ 53) (lit≤ tt)) (quartered _ (2 ^ 35) (lit≤ tt));
       }
     where
-      from-e : (e l k : ℕ) → e ≡ 2 ^ 53 * (4 * k) → e ≤ l + 4925812092436484 * (4 * k) → 2 ^ 53 * k ≤ l
+      from-e : (e l k : ℕ) → e ≡ 2 ^ 53 * (4 * k) → e ≤ l + 39 * 2 ^ 47 * (4 * k) → 2 ^ 53 * k ≤ l
       from-e e l k h g = omega arith
+
+-- ---- e is 0, and the inverse is not 1
+-- a value of size 0 on any scale
+pub nought : {x : Float} (μ : ℕ) → Scale μ → Number x → mag x ≡ 0 → Bound μ 0 x
+nought μ s n e = record { scale = s; number = n; size = le-trans (le-of-eq e) (le-of-eq (sym (zero-mul μ))) }
+
+-- 2^53 of these are 1/128
+part : ℕ
+part = 2 ^ 1014
+
+part-scale : Scale part
+unfolding part
+part-scale = record { positive = pow-pos 1014; bounded = lit≤ tt }
+
+on-part-scale : (K M : ℕ) → K * 128 ≤ M → K * S ≤ M * part
+unfolding part S
+on-part-scale K M h = le-trans (le-of-eq (sym (mul-assoc K 128 (2 ^ 1014)))) (mul-le-mul-right (2 ^ 1014) h)
+
+part-scale-is : 2 ^ 53 * part ≡ 2 ^ 46 * S
+unfolding part S
+part-scale-is = refl
+
+pub far-part : {e p : Float} {a b : DoubleDouble} → Number e → mag e ≡ 0 → Bound S (47 * 2 ^ 42 + 2 ^ 36) p → 35 * 2 ^ 43 * S ≤ mag (a .hi) → Bounds S (33 * 2 ^ 47) 1 a → Bounds S (2 ^ 48 + 2 ^ 38) (2 ^ 27) b
+    → Logs (e ⊕ (a .hi ⊕ p)) (sumOfLogs e a b)
+far-part {e} {p} {a} {b} n m r least q l =
+    let zero = nought S unit n m in
+    let w = add-bound (q .hi) r tt in
+    let logs = logs-size zero q l tt in
+    let off = apart-through (apart-at 4 (add-apart-right zero w tt) tt) (apart-at (48 * 2 ^ 42) (add-apart (q .hi) r tt) tt) in
+    record {
+      μ = part;
+      scale = part-scale;
+      size = le-trans (le-of-eq part-scale-is) (from-a (mag (a .hi)) (mag (e ⊕ (a .hi ⊕ p))) S least (not-less off));
+      above = at (2 ^ 62) (add-bound zero w tt) tt;
+      accurate = onto-both part (72 * 2 ^ 53) (2 ^ 35) part-scale logs (on-part-scale _ (72 * 2 ^ 53) (lit≤ tt)) (on-part-scale _ (2 ^ 35) (lit≤ tt));
+    }
+  where
+    from-a : (a l s : ℕ) → 35 * 2 ^ 43 * s ≤ a → a ≤ l + (4 + 48 * 2 ^ 42) * s → 2 ^ 46 * s ≤ l
+    from-a a l s h g = omega arith
+
+-- ---- e is 0, and the inverse is 1: all on the scale of z, which is q × 2^-53 in size
+module _ (z : Float) (n : Number z) (q : ℕ) (size : mag z ≡ q * S) (some : 0 < q) (b : Bound S (2 ^ 47 + 2 ^ 33) z) where
+  σ : ℕ
+  σ = q * 2 ^ 968
+
+  z-size : mag z ≡ 2 ^ 53 * σ
+  unfolding σ S
+  z-size = size ∙ go q (2 ^ 968)
+    where
+      go : (q k : ℕ) → q * (2 ^ 53 * k) ≡ 2 ^ 53 * (q * k)
+      go q k = omega arith
+
+  q-small : q ≤ 2 ^ 48
+  q-small = le-of-mul-le-mul-right (le-trans (le-of-eq (sym size)) (le-trans (b .size) (mul-le-mul-right S (lit≤ tt)))) S-pos
+
+  z-scale : Scale σ
+  unfolding σ
+  z-scale = record { positive = mul-pos some (pow-pos 968); bounded = le-trans (mul-le-mul-right (2 ^ 968) q-small) (lit≤ tt) }
+
+  σ-le : σ ≤ S
+  unfolding σ S
+  σ-le = le-trans (mul-le-mul-right (2 ^ 968) q-small) (lit≤ tt)
+
+  itself : Bound σ (2 ^ 53) z
+  itself = record { scale = z-scale; number = n; size = le-of-eq z-size }
+
+  p : Float
+  p = z ⊗ factor z
+
+  p-bound : Bound σ (3 * 2 ^ 52) p
+  unfolding p
+  p-bound = at (3 * 2 ^ 52) (mul-bound (unit-right z-scale) itself (positive-bound (fast-factor b)) tt tt) tt
+
+  -- p is 91/64 of z at least, but for the rounding
+  p-least : 91 * 2 ^ 47 * σ ≤ mag p + 4 * σ
+  unfolding p
+  p-least =
+      let f = fast-factor b in
+      let m = mul-near n (f .number) (mul-limit (unit-right z-scale) itself (positive-bound f) tt tt) in
+      from-below (mag (z ⊗ factor z)) (mag z) (mag (factor z)) σ S S-pos (z-scale .positive) z-size (le-trans (f .least) (le-add-right (plus (factor z)) (less (factor z))))
+      (subst (λ (w : ℕ). mag z * mag (factor z) * 2 ^ 53 ≤ mag (z ⊗ factor z) * w * 2 ^ 53 + mag z * mag (factor z) + w * 2 ^ 52) one-is (m .least))
+    where
+      from-below : (m x f k s : ℕ) → 0 < s → 0 < k → x ≡ 2 ^ 53 * k → 91 * 2 ^ 47 * s ≤ f → x * f * 2 ^ 53 ≤ m * (s * 2 ^ 53) * 2 ^ 53 + x * f + s * 2 ^ 53 * 2 ^ 52 → 91 * 2 ^ 47 * k ≤ m + 4 * k
+      from-below m x f k s s0 k0 e l h =
+          third m k k0 (le-of-mul-le-mul-right (second (x * f) m k s (first x f k s e l) (alone (x * f) m s h)) s0)
+        where
+          alone : (w m s : ℕ) → w * 2 ^ 53 ≤ m * (s * 2 ^ 53) * 2 ^ 53 + w + s * 2 ^ 53 * 2 ^ 52 → w * (2 ^ 53 - 1) ≤ m * s * 2 ^ 106 + s * 2 ^ 105
+          alone w m s h = omega arith
+
+          first : (x f k s : ℕ) → x ≡ 2 ^ 53 * k → 91 * 2 ^ 47 * s ≤ f → 91 * (k * s) * 2 ^ 100 ≤ x * f
+          first x f k s e l = le-trans (le-of-eq (gather k s)) (le-trans (mul-le-mul (le-refl (2 ^ 53 * k)) l) (le-of-eq (ap (λ (z : ℕ). z * f) (sym e))))
+            where
+              gather : (k s : ℕ) → 91 * (k * s) * 2 ^ 100 ≡ 2 ^ 53 * k * (91 * 2 ^ 47 * s)
+              gather k s = omega arith
+
+          hundred : (m s : ℕ) → m * s * 2 ^ 106 + s * 2 ^ 105 ≡ (m * 2 ^ 6 + 2 ^ 5) * s * 2 ^ 100
+          hundred m s = omega arith
+
+          second : (w m k s : ℕ) → 91 * (k * s) * 2 ^ 100 ≤ w → w * (2 ^ 53 - 1) ≤ m * s * 2 ^ 106 + s * 2 ^ 105 → 91 * k * (2 ^ 53 - 1) * s ≤ (m * 2 ^ 6 + 2 ^ 5) * s
+          second w m k s g h =
+              le-trans (le-of-eq (around k s))
+              (le-of-mul-le-mul-right (le-trans (le-of-eq (mul-right-comm (91 * (k * s)) (2 ^ 53 - 1) (2 ^ 100))) (le-trans (mul-le-mul-right (2 ^ 53 - 1) g) (le-trans h (le-of-eq (hundred m s))))) (pow-pos 100))
+            where
+              around : (k s : ℕ) → 91 * k * (2 ^ 53 - 1) * s ≡ 91 * (k * s) * (2 ^ 53 - 1)
+              around k s = omega arith
+
+          third : (m k : ℕ) → 0 < k → 91 * k * (2 ^ 53 - 1) ≤ m * 2 ^ 6 + 2 ^ 5 → 91 * 2 ^ 47 * k ≤ m + 4 * k
+          third m k k0 h = omega arith
+
+  pub near : {e : Float} {a z' : DoubleDouble} → Number e → mag e ≡ 0 → Number (a .hi) → mag (a .hi) ≡ 0 → Number (a .lo) → mag (a .lo) ≡ 0 → Bounds S (2 ^ 47 + 2 ^ 36) (2 ^ 12) z' → Bounds (q * 2 ^ 968) (5 * 2 ^ 53) (2 ^ 10) z'
+      → Logs (e ⊕ (a .hi ⊕ log2p1Polyeval1 z)) (sumOfLogs e a (log2Poly2 z'))
+  unfolding p σ
+  near {e} {a} {z'} ne me nh mh nl ml bounds own =
+      let zero = nought σ z-scale ne me in
+      let high = nought σ z-scale nh mh in
+      let w = at (2 ^ 54) (add-bound high p-bound tt) tt in
+      let l = add-bound zero w tt in
+      let logs = logs-size zero (record { hi = high; lo = nought σ z-scale nl ml }) (poly-size z-scale bounds own tt) tt in
+      let off = apart-through (apart-at 8 (add-apart-right zero w tt) tt) (apart-at 8 (add-apart-right high p-bound tt) tt) in
+      subst (λ (k : Float). Logs (e ⊕ (a .hi ⊕ k)) (sumOfLogs e a (log2Poly2 z'))) (sym (fast-is z)) (record {
+        μ = σ;
+        scale = z-scale;
+        size = from-p (mag (z ⊗ factor z)) (mag (e ⊕ (a .hi ⊕ z ⊗ factor z))) σ p-least (not-less off);
+        above = onto S (2 ^ 62) unit l (mul-le-mul (lit≤ tt) σ-le);
+        accurate = record { hi = at (72 * 2 ^ 53) (logs .hi) tt; lo = at (2 ^ 35) (logs .lo) tt };
+      })
+    where
+      from-p : (p l k : ℕ) → 91 * 2 ^ 47 * k ≤ p + 4 * k → p ≤ l + (8 + 8) * k → 2 ^ 53 * k ≤ l
+      from-p p l k g h = omega arith
