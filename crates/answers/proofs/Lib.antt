@@ -18,3 +18,5 @@ pub mod ExpSign
 pub mod InverseSlot
 pub mod LogSize
 pub mod Logs
+pub mod Reduced
+pub mod LowPart
