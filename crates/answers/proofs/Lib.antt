@@ -20,3 +20,4 @@ pub mod LogSize
 pub mod Logs
 pub mod Reduced
 pub mod LowPart
+pub mod OnePlusParts

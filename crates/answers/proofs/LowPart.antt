@@ -53,13 +53,13 @@ unfolding le perOne
 above-minus-one x n h = le-trans (le-of-eq (sym (zero-add (less x)))) (le-units minusOne x minus-one-number n (or-l (lt minusOne x) (eq minusOne x) h))
 
 -- so the sum with 1 is below the overflow
-sum-limit : (x : Float) → mag x ≤ 2 ^ 128 * perOne → 4 * (mag one + mag x) ≤ limit
+pub sum-limit : (x : Float) → mag x ≤ 2 ^ 128 * perOne → 4 * (mag one + mag x) ≤ limit
 unfolding limit perOne
 sum-limit x h = le-trans (mul-le-mul (le-refl 4) (add-le-add (le-refl (mag one)) h)) (lit≤ tt)
 
 -- ---- the sum is not small beside its terms
 -- 2^-24 at least, by its pattern
-least-units : (u : Float) → T (fits binary64 u) → 999 * 2 ^ 52 ≤ toBits binary64 u → toBits binary64 u < 1151 * 2 ^ 52 → perOne ≤ 2 ^ 24 * mag u
+pub least-units : (u : Float) → T (fits binary64 u) → 999 * 2 ^ 52 ≤ toBits binary64 u → toBits binary64 u < 1151 * 2 ^ 52 → perOne ≤ 2 ^ 24 * mag u
 unfolding toBits perOne
 least-units nan t l h = absurd (not-le-of-lt h (lit≤ tt))
 least-units (inf true) t l h = absurd (not-le-of-lt h (lit≤ tt))
@@ -94,7 +94,7 @@ terms-small p n q m o k W (inr z) K O a l h = le-trans (le-of-eq (shorter z)) (o
         plain q o p = omega arith
 
 -- |1| + |x| is at most 2^25 of it
-sum-least : (x : Float) → Number x → less x ≤ plus x + perOne → mag x ≤ 2 ^ 128 * perOne → perOne ≤ 2 ^ 24 * mag (one ⊕ x) → mag one + mag x ≤ 2 ^ 25 * mag (one ⊕ x)
+pub sum-least : (x : Float) → Number x → less x ≤ plus x + perOne → mag x ≤ 2 ^ 128 * perOne → perOne ≤ 2 ^ 24 * mag (one ⊕ x) → mag one + mag x ≤ 2 ^ 25 * mag (one ⊕ x)
 sum-least x n above size least =
     let d = mag one + mag x in
     let c = add-near d (one-is-1 .number) n (sum-small one x d (le-refl d)) (quarter (mag one + mag x) limit (sum-limit x size)) in
