@@ -70,6 +70,12 @@ inverse-fair k h =
     let o = six (between n n (entry log2p1CompoundfInv k)) (leb n (3 * 2 ^ 52)) (ok n) (ok ((k + 46) * 2 ^ 47 + 4)) (productFits n ((k + 45) * 2 ^ 47 - 4) lowest) (leb (productK n ((k + 46) * 2 ^ 47 + 4)) highest) (carried 46 fair tt k h) in
     record { of-r = n; positive = tested-positive n n (entry log2p1CompoundfInv k) (o .0); small = o .1; r-ok = o .2; slot-ok = o .3; low = o .4; high = o .5 }
 
+-- at most 3/2
+pub inverse-size : (k : ℕ) → k < 46 → Bound S (3 * 2 ^ 52) (entry log2p1CompoundfInv k)
+inverse-size k h =
+    let r = inverse-fair k h in
+    at (3 * 2 ^ 52) (positive-bound (r .positive)) (r .small)
+
 -- -1
 minus-one-is : Bound S (2 ^ 53) minusOne × (plus minusOne ≡ 0) × (less minusOne ≡ 2 ^ 53 * S)
 unfolding fits S
@@ -153,8 +159,7 @@ module _ (t : Float) (b : Positive (2 ^ 52) (3 * 2 ^ 52) t) (has : HasInverse t)
   inverse-slot =
       let r = inverse-fair i (has .1) in
       let m = positive-at lowest highest (positive-mul lowest (r .positive) in-slot (r .r-ok) (r .slot-ok) (r .low)) tt (r .high) in
-      let R = at (3 * 2 ^ 52) (positive-bound (r .positive)) (r .small) in
       let c = minus-one-is in
       at (2 ^ 47 + 2 ^ 33)
-      (fmla-small (2 ^ 47 + 2 ^ 24) (unit-left unit) R (positive-bound b) (c .0)
+      (fmla-small (2 ^ 47 + 2 ^ 24) (unit-left unit) (inverse-size i (has .1)) (positive-bound b) (c .0)
       (off-one (plus (entry log2p1CompoundfInv i ⊗ t)) (less (entry log2p1CompoundfInv i ⊗ t)) (plus minusOne) (less minusOne) S (m .clear) (c .1) (c .2) (m .least) (m .most)) tt tt tt) tt

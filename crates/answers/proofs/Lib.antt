@@ -21,3 +21,4 @@ pub mod Logs
 pub mod Reduced
 pub mod LowPart
 pub mod OnePlusParts
+pub mod LogCases
