@@ -22,3 +22,4 @@ pub mod Reduced
 pub mod LowPart
 pub mod OnePlusParts
 pub mod LogCases
+pub mod Lost

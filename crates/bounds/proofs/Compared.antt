@@ -6,7 +6,7 @@ use mathlib.Core.Bool.{Bool, true, false, not, _&&_, _||_}
 use Prim.Native.Nat.{ℕ, zero, suc, _+_, _-_, _*_, _/_, _^_, _≤_, _<_}
 use native.Mathlib.Nat.{le-refl, le-trans, le-of-eq, le-antisymm, lt-of-le-of-lt, lt-of-lt-of-le, le-of-mul-le-mul-right, mul-comm, mul-assoc, mul-right-comm, mul-le-mul, mul-le-mul-right, mul-pos, add-mul, add-zero, zero-add, le-add-right, mul-mul-mul-comm, mul-lt-mul-of-pos-right, not-le-of-lt, div-div-eq-div-mul, div-mul-le-self, div-lt-iff-lt-mul}
 use native.Mathlib.Omega.{arith}
-use lib.Dec.{T, leb, ltb, eqb, leb→le, ltb→lt, nltb→le, eqb→eq, lit≤, lit<}
+use lib.Dec.{T, leb, ltb, eqb, leb→le, nleb→lt, ltb→lt, nltb→le, eqb→eq, lit≤, lit<}
 use lib.IntN.{ℤ}
 use lib.Pow.{pow-pos}
 use lib.Ieee.{Float, nan, inf, fin, binary64, up, down, size, le, below, level, fits, toBits}
@@ -298,3 +298,11 @@ positive-sum {a} {b} {c} {d} {x} {y} p q t u =
         → (r + (n + m)) * 2 ^ 53 ≤ (l + (p + q)) * 2 ^ 53 + D → (l + (p + q)) * 2 ^ 53 ≤ (r + (n + m)) * 2 ^ 53 + D → (l ≡ 0) × (a + c - E ≤ r) × (r ≤ b + d + E)
     go p n q m r l a b c d E D z N M ap pb cq qd e u g h =
         finish p n q m r l a b c d E z N M ap pb cq qd u (past (r + (n + m)) (l + (p + q)) D E e g) (past (l + (p + q)) (r + (n + m)) D E e h)
+
+-- of two values one is at most the other; where x is not, it is the larger, strictly
+pub le-other : (x y : Float) → Number x → Number y → le x y ≡ false → plus y + less x < plus x + less y
+le-other x y p q e = go (leb (plus x + less y) (plus y + less x)) (leb→le (plus x + less y) (plus y + less x)) (nleb→lt (plus x + less y) (plus y + less x))
+  where
+    go : (b : Bool) → (T b → plus x + less y ≤ plus y + less x) → (T (not b) → plus y + less x < plus x + less y) → plus y + less x < plus x + less y
+    go true h g = absurd (subst T e (le-of-units x y p q (h tt)))
+    go false h g = g tt
