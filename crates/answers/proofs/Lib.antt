@@ -23,3 +23,4 @@ pub mod LowPart
 pub mod OnePlusParts
 pub mod LogCases
 pub mod Lost
+pub mod SlowSign

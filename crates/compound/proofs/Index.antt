@@ -25,7 +25,7 @@ use Rattle.compound.specs.Slow.{clampedIndex, clampedK}
 use Rattle.compound.proofs.Lifted.{within-read}
 
 -- ---- a value between two others
-between-finite : (lo x hi : Float) → T (finite lo) → T (finite hi) → T (le lo x) → T (le x hi) → T (finite x)
+pub between-finite : (lo x hi : Float) → T (finite lo) → T (finite hi) → T (le lo x) → T (le x hi) → T (finite x)
 unfolding le
 between-finite nan x hi p q g h = absurd p
 between-finite (inf s) x hi p q g h = absurd p

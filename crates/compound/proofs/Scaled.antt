@@ -8,7 +8,7 @@ use native.Mathlib.Nat.{le-antisymm, le-of-suc-le-suc, eq-or-lt-of-le, le-of-eq,
 use native.Mathlib.Omega.{arith}
 use lib.Dec.{T, eqb, ltb, ltb→lt, nltb→le, lt→ltb, lit<, lit≤}
 use lib.IntN.{ℤ, pos, negsuc, negℤ}
-use lib.Ieee.{Float, nan, inf, fin, binary32, binary64, up, down, minus, round, sum, add, mul, level, le, lt, fits, toBits, ofBits, isNan}
+use lib.Ieee.{Float, nan, inf, fin, Format, binary32, binary64, up, down, minus, round, sum, add, mul, level, le, lt, fits, toBits, ofBits, isNan}
 use lib.Ieee.Bits.{ofBits-toBits}
 use lib.Ieee.Fits.{and-i, eq→eqb, add-fits, down-pos}
 use lib.Ieee.Scale.{finite}
@@ -30,18 +30,18 @@ use Rattle.compound.proofs.Field.{biased-near}
 use Rattle.compound.proofs.Index.{pattern-between, reduced-pattern, reduced-index}
 
 -- ---- the sign of 1 + x
-sum-clear : (s : Bool) (m : ℕ) (e : ℤ) → T (lt minusOne (fin s m e)) → T (clear (add binary64 one (fin s m e)))
+pub sum-clear : (f : Format) (s : Bool) (m : ℕ) (e : ℤ) → T (lt minusOne (fin s m e)) → T (clear (add f one (fin s m e)))
 unfolding add sum lt
-sum-clear false m e h = round-clear binary64 (1 * 1 * down e + m * up e * 1) (1 * down e)
-sum-clear true m e h = go (ltb (1 * 1 * down e) (m * up e * 1)) (ltb→lt (1 * 1 * down e) (m * up e * 1)) (ltb→lt (m * up e * 1) (1 * 1 * down e) h)
+sum-clear f false m e h = round-clear f (1 * 1 * down e + m * up e * 1) (1 * down e)
+sum-clear f true m e h = go (ltb (1 * 1 * down e) (m * up e * 1)) (ltb→lt (1 * 1 * down e) (m * up e * 1)) (ltb→lt (m * up e * 1) (1 * 1 * down e) h)
   where
     no : (a b : ℕ) → a < b → b < a → ⊥
     no a b g k = omega arith
 
     go : (u : Bool) → (T u → 1 * 1 * down e < m * up e * 1) → m * up e * 1 < 1 * 1 * down e
-        → T (clear (cond u (round binary64 true (m * up e * 1 - 1 * 1 * down e) (1 * down e)) (round binary64 false (1 * 1 * down e - m * up e * 1) (1 * down e))))
+        → T (clear (cond u (round f true (m * up e * 1 - 1 * 1 * down e) (1 * down e)) (round f false (1 * 1 * down e - m * up e * 1) (1 * down e))))
     go true g k = absurd (no (1 * 1 * down e) (m * up e * 1) (g tt) k)
-    go false g k = round-clear binary64 (1 * 1 * down e - m * up e * 1) (1 * down e)
+    go false g k = round-clear f (1 * 1 * down e - m * up e * 1) (1 * down e)
 
 -- x > -1, +infinity included: the sign's bit of 1 + x is clear
 pub one-plus-clear : (x : Float) → T (fits binary64 x) → T (lt minusOne x) → toBits binary64 (add binary64 one x) < 2 ^ 63
@@ -49,7 +49,7 @@ unfolding lt add toBits
 one-plus-clear nan f h = absurd h
 one-plus-clear (inf true) f h = absurd h
 one-plus-clear (inf false) f h = lit< tt
-one-plus-clear (fin s m e) f h = under (add binary64 one (fin s m e)) (add-fits binary64 one (fin s m e)) (sum-clear s m e h)
+one-plus-clear (fin s m e) f h = under (add binary64 one (fin s m e)) (add-fits binary64 one (fin s m e)) (sum-clear binary64 s m e h)
   where
     under : (y : Float) → T (fits binary64 y) → T (clear y) → toBits binary64 y < 2 ^ 63
     under nan f c = absurd c
@@ -64,7 +64,7 @@ unfolding lt add isNan
 one-plus-number nan h = absurd h
 one-plus-number (inf true) h = absurd h
 one-plus-number (inf false) h = tt
-one-plus-number (fin s m e) h = number (add binary64 one (fin s m e)) (sum-clear s m e h)
+one-plus-number (fin s m e) h = number (add binary64 one (fin s m e)) (sum-clear binary64 s m e h)
   where
     number : (y : Float) → T (clear y) → T (not (isNan y))
     number nan c = absurd c
@@ -82,7 +82,7 @@ largest = fin false 16777215 (pos 104)
 under-least : (a d : ℕ) → a < d → a < 2 ^ 24 → a * 16777216 ≤ 16777215 * 1 * d
 under-least a d h g = omega arith
 
-digits-below : (m : ℕ) (e : ℤ) → m < 2 ^ 24 → m * up e < down e → m * up e < 2 ^ 24
+pub digits-below : (m : ℕ) (e : ℤ) → m < 2 ^ 24 → m * up e < down e → m * up e < 2 ^ 24
 digits-below m (pos k) g h = lt-trans h (lit< tt)
 digits-below m (negsuc k) g h = lt-of-le-of-lt (le-of-eq (mul-one m)) g
 

@@ -94,7 +94,7 @@ either-le a b = go (leb a b) (leb→le a b) (nleb→lt a b)
     go true h k = inl (h tt)
     go false h k = inr (le-of-lt (k tt))
 
-le-either : (x y : Float) → T (clear x) → T (clear y) → T (le x y) ⊎ T (le y x)
+pub le-either : (x y : Float) → T (clear x) → T (clear y) → T (le x y) ⊎ T (le y x)
 unfolding le
 le-either = clear-both (λ (x y : Float). T (le x y) ⊎ T (le y x)) (inl tt) (λ n d. inr tt) (λ m e. inl tt) (λ m e n d. go m e n d (either-le (m * up e * down d) (n * up d * down e)))
   where

@@ -1,0 +1,99 @@
+-- The slow path gives a number whose sign is clear (`slow-clear`). Its two logarithms are on one scale, so that where the fast one times y is below 150 in size, the
+-- accurate one times y has a second part below 2^-8, and the end of the path is as `ExpSign` has it. Assumes nothing.
+use mathlib.Core.Path.{_≡_, refl, sym, ap, ap₂, _∙_, subst}
+use mathlib.Core.Logic.{_⊎_, inl, inr}
+use mathlib.Core.Bool.{Bool, true, false, not, cond, _&&_, true≢false}
+use Prim.Native.Nat.{ℕ, zero, suc, _+_, _-_, _*_, _/_, _%_, _^_, _≤_, _<_, zero-le}
+use native.Mathlib.Nat.{le-refl, le-trans, le-of-eq, le-of-lt, lt-of-lt-of-le, le-of-mul-le-mul-right, mul-assoc, mul-comm, mul-le-mul, mul-le-mul-right, mul-pos, zero-mul, one-mul, zero-add, add-zero}
+use native.Mathlib.Omega.{arith}
+use lib.Dec.{T, leb, lit≤, lit<}
+use lib.IntN.{ℤ, pos, negsuc}
+use lib.Ieee.{Float, nan, inf, fin, Format, binary32, binary64, up, down, fits, toBits, ofBits, add, mul, sub, lt, le, eq}
+use lib.Ieee.Fits.{and-r, add-fits, sub-fits, mul-fits}
+use lib.Ieee.Scale.{finite}
+use Rattle.floats.specs.Operations.{_⊕_, _⊖_, _⊗_, f64}
+use Rattle.floats.specs.Narrowing.{narrowed, nearestWhole}
+use Rattle.floats.specs.OnBits.{absolute}
+use Rattle.floats.proofs.Laws.Narrow.{narrowed-same}
+use Rattle.floats.proofs.Laws.Order.{clear, or-l}
+use Rattle.floats.proofs.Laws.Sums.{whole-distance}
+use Rattle.floats.proofs.Laws.Units.{exponent, fits-signed, bits-of-value}
+use Rattle.double_double.specs.declared.DoubleDouble.{DoubleDouble}
+use Rattle.double_double.specs.DoubleDouble.{fromExactAdd, quickMultF64}
+use Rattle.compound.specs.Special.{one, minusOne}
+use Rattle.compound.specs.Fast.{compoundfLog2p1Fast}
+use Rattle.compound.specs.Slow.{onePlus, compoundfLog2p1Accurate, isNearOne, exp2Away, exp2Accurate, compoundfAccurate}
+use Rattle.compound.specs.Route.{Tabled}
+use Rattle.compound.proofs.Index.{between-finite}
+use Rattle.compound.proofs.Scaled.{sum-clear, one-plus-bits}
+use Rattle.bounds.proofs.Values.{perOne, perOne-pos, plus, less, mag, one-side, Number}
+use Rattle.bounds.proofs.Operation.{limit, mul-near, nothing}
+use Rattle.bounds.proofs.Sums.{sides}
+use Rattle.bounds.proofs.Scales.{S, S-pos, one-is, unit, unit-left, Scale, Through, Bound, Bounds, at, onto, mul-bound, mul-limit, quick-f64-bounds, tested}
+use Rattle.bounds.proofs.Compared.{Positive, positive-add, positive-at, le-units, le-of-units, le-other}
+use Rattle.bounds.proofs.Exactly.{add-turned}
+use Rattle.answers.proofs.ExpSign.{away-clear}
+use Rattle.answers.proofs.LogCases.{Nil, parted-logs}
+use Rattle.answers.proofs.Logs.{Logs}
+use Rattle.answers.proofs.Lost.{lost-logs}
+use Rattle.answers.proofs.LowPart.{one-is-1, one-mag, f32-number, above-minus-one, least-units}
+use Rattle.answers.proofs.OnePlusParts.{Above, Parted, parted-low, parted-high}
+use Rattle.answers.proofs.Plain.{plain-narrowed}
+use Rattle.answers.proofs.TableValues.{SlowClear}
+
+-- ---- the two logarithms, for every x
+abbrev tiny : Float
+tiny = fin false 1 (negsuc 52)
+
+tiny-is : Number tiny × (plus tiny ≡ S) × (less tiny ≡ 0)
+unfolding fits S
+tiny-is = (record { held = tt; plain = tt }, refl, refl)
+
+-- |x| in units
+absolute-units : (x : Float) → Number x → Number (absolute x) × (plus (absolute x) ≡ mag x) × (less (absolute x) ≡ 0)
+unfolding absolute
+absolute-units nan n = absurd (n .plain)
+absolute-units (inf s) n = absurd (n .plain)
+absolute-units (fin true m e) n = (record { held = fits-signed binary64 true false m e (n .held); plain = tt }, sym (zero-add (m * 2 ^ exponent 1074 e)), refl)
+absolute-units (fin false m e) n = (n, sym (add-zero (m * 2 ^ exponent 1074 e)), refl)
+
+module _ (x : Float) (f : T (fits binary32 x)) (p : T (finite x)) (h : T (lt minusOne x)) where
+  num : Number x × (mag x ≤ 2 ^ 128 * perOne)
+  num = f32-number x f p
+
+  on-scale : Bound S (2 ^ 181) x
+  on-scale = record { scale = unit; number = num .0; size = le-trans (num .1) (le-of-eq (ap (λ (k : ℕ). 2 ^ 128 * k) one-is ∙ go (2 ^ 128) S (2 ^ 53))) }
+    where
+      go : (a s b : ℕ) → a * (s * b) ≡ a * b * s
+      go a s b = ap (λ (k : ℕ). a * k) (mul-comm s b) ∙ sym (mul-assoc a b s)
+
+  -- where hi is the f64 sum
+  by-parts : (v : DoubleDouble) → onePlus x ≡ v → v .hi ≡ one ⊕ x → (Above x → Parted x v) → Logs (compoundfLog2p1Fast x) (compoundfLog2p1Accurate x) ⊎ Nil (compoundfLog2p1Fast x)
+  by-parts v e is parted =
+      let bits = subst (λ (w : Float). (999 * 2 ^ 52 ≤ toBits binary64 w) × (toBits binary64 w < 1151 * 2 ^ 52)) (ap (λ (d : DoubleDouble). d .hi) e ∙ is) (one-plus-bits x f p h) in
+      let a : Above x = record { number = num .0; size = num .1; above = above-minus-one x (num .0) h; sum = least-units (one ⊕ x) (add-fits binary64 one x) (bits .0) (bits .1) } in
+      parted-logs x (toBits binary64 (one ⊕ x)) refl (bits .0) (bits .1) on-scale (subst (Parted x) (sym e) (parted a))
+
+  -- below 2^-53
+  below-tiny : le tiny (absolute (narrowed x)) ≡ false → mag x ≤ S
+  below-tiny e =
+      let w = absolute-units x (num .0) in
+      let o = le-other tiny (absolute x) (tiny-is .0) (w .0) (subst (λ (k : Float). le tiny (absolute k) ≡ false) (narrowed-same x f) e) in
+      under (plus tiny) (less tiny) (plus (absolute x)) (less (absolute x)) (mag x) S (tiny-is .1) (tiny-is .2) (w .1) (w .2) o
+    where
+      under : (p n q m x s : ℕ) → p ≡ s → n ≡ 0 → q ≡ x → m ≡ 0 → q + n < p + m → x ≤ s
+      under p n q m x s a b c d h = omega arith
+
+  pub both-logs : Logs (compoundfLog2p1Fast x) (compoundfLog2p1Accurate x) ⊎ Nil (compoundfLog2p1Fast x)
+  both-logs = go (le x one) refl (le tiny (absolute (narrowed x))) refl
+    where
+      Parts : Bool → Bool → DoubleDouble
+      Parts b c = cond b (cond c (fromExactAdd one x) (record { lo = x; hi = one })) (fromExactAdd x one)
+
+      split : (b c : Bool) → le x one ≡ b → le tiny (absolute (narrowed x)) ≡ c → onePlus x ≡ Parts b c
+      split b c g k = unfold onePlus in ap₂ Parts g k
+
+      go : (b : Bool) → le x one ≡ b → (c : Bool) → le tiny (absolute (narrowed x)) ≡ c → Logs (compoundfLog2p1Fast x) (compoundfLog2p1Accurate x) ⊎ Nil (compoundfLog2p1Fast x)
+      go true g true k = by-parts (fromExactAdd one x) (split true true g k) (unfold fromExactAdd in refl) (λ a. parted-low x a (subst T (sym g) tt))
+      go true g false k = lost-logs x (num .0) (below-tiny k) (split true false g k)
+      go false g c k = by-parts (fromExactAdd x one) (split false c g k) (unfold fromExactAdd in add-turned binary64 x one) (λ a. parted-high x a (le-of-units one x (one-is-1 .number) (num .0) (le-of-lt (le-other x one (num .0) (one-is-1 .number) g))))
