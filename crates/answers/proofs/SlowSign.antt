@@ -4,7 +4,7 @@ use mathlib.Core.Path.{_≡_, refl, sym, ap, ap₂, _∙_, subst}
 use mathlib.Core.Logic.{_⊎_, inl, inr}
 use mathlib.Core.Bool.{Bool, true, false, not, cond, _&&_, true≢false}
 use Prim.Native.Nat.{ℕ, zero, suc, _+_, _-_, _*_, _/_, _%_, _^_, _≤_, _<_, zero-le}
-use native.Mathlib.Nat.{le-refl, le-trans, le-of-eq, le-of-lt, lt-of-lt-of-le, le-of-mul-le-mul-right, mul-assoc, mul-comm, mul-le-mul, mul-le-mul-right, mul-pos, zero-mul, one-mul, zero-add, add-zero}
+use native.Mathlib.Nat.{le-refl, le-trans, le-of-eq, le-of-lt, lt-of-lt-of-le, le-of-mul-le-mul-right, mul-assoc, mul-comm, mul-le-mul, mul-le-mul-right, mul-pos, zero-mul, one-mul, zero-add, add-zero, add-le-add}
 use native.Mathlib.Omega.{arith}
 use lib.Dec.{T, leb, lit≤, lit<}
 use lib.IntN.{ℤ, pos, negsuc}
@@ -97,3 +97,105 @@ module _ (x : Float) (f : T (fits binary32 x)) (p : T (finite x)) (h : T (lt min
       go true g true k = by-parts (fromExactAdd one x) (split true true g k) (unfold fromExactAdd in refl) (λ a. parted-low x a (subst T (sym g) tt))
       go true g false k = lost-logs x (num .0) (below-tiny k) (split true false g k)
       go false g c k = by-parts (fromExactAdd x one) (split false c g k) (unfold fromExactAdd in add-turned binary64 x one) (λ a. parted-high x a (le-of-units one x (one-is-1 .number) (num .0) (le-of-lt (le-other x one (num .0) (one-is-1 .number) g))))
+
+-- ---- t = l × y, of a size below 150
+t-number : (t : Float) → T (fits binary64 t) → le t (fin true 75 (pos 1)) ≡ false → lt t (fin false 1 (pos 7)) ≡ true → Number t × (mag t ≤ 150 * perOne)
+unfolding le lt fits perOne
+t-number nan f g h = absurd (true≢false (sym h))
+t-number (inf true) f g h = absurd (true≢false g)
+t-number (inf false) f g h = absurd (true≢false (sym h))
+t-number (fin s m e) f g h =
+    let n : Number (fin s m e) = record { held = f; plain = tt } in
+    let low = le-other (fin s m e) (fin true 75 (pos 1)) n (record { held = tt; plain = tt }) g in
+    let high = le-units (fin s m e) (fin false 1 (pos 7)) n (record { held = tt; plain = tt }) (or-l (lt (fin s m e) (fin false 1 (pos 7))) (eq (fin s m e) (fin false 1 (pos 7))) (subst T (sym h) tt)) in
+    (n, sides (plus (fin s m e)) (less (fin s m e)) (150 * 2 ^ 1074) (one-side (fin s m e)) (le-trans (above (plus (fin s m e)) (less (fin s m e)) (2 ^ 1081) high) (widen (less (fin s m e)))) (below (plus (fin s m e)) (less (fin s m e)) (75 * 2 ^ 1075) low))
+  where
+    above : (p n c : ℕ) → p + 0 ≤ c + n → p ≤ n + c
+    above p n c h = omega arith
+
+    widen : (n : ℕ) → n + 2 ^ 1081 ≤ n + 150 * 2 ^ 1074
+    widen n = add-le-add (le-refl n) (lit≤ tt)
+
+    below : (p n c : ℕ) → 0 + n < p + c → n ≤ p + c
+    below p n c h = omega arith
+
+-- so |l| × |y| is at most 151
+product-size : (M T w q : ℕ) → T ≤ 150 * q → w ≤ q → M * 2 ^ 53 ≤ T * 2 ^ 53 + M + w * 2 ^ 52 → M ≤ 151 * q
+product-size M T w q t v h = omega arith
+
+-- ---- the exponent of the accurate path
+large-scale : 512 ≤ S
+unfolding S
+large-scale = lit≤ tt
+
+module _ (l y : Float) (L : DoubleDouble) (logs : Logs l L) (Y : Number y) (y-most : mag y ≤ 2 ^ 128 * perOne) (T-size : mag (l ⊗ y) ≤ 150 * perOne) where
+  y-bound : Bound S (2 ^ 181) y
+  y-bound = record { scale = unit; number = Y; size = le-trans y-most (le-of-eq (ap (λ (k : ℕ). 2 ^ 128 * k) one-is ∙ go (2 ^ 128) S (2 ^ 53))) }
+    where
+      go : (a s b : ℕ) → a * (s * b) ≡ a * b * s
+      go a s b = ap (λ (k : ℕ). a * k) (mul-comm s b) ∙ sym (mul-assoc a b s)
+
+  sizes : mag l * mag y ≤ 151 * (perOne * perOne)
+  sizes =
+      let m = mul-near (logs .above .number) Y (mul-limit (unit-left unit) (logs .above) y-bound tt tt) in
+      product-size (mag l * mag y) (mag (l ⊗ y) * perOne) perOne (perOne * perOne) (le-trans (mul-le-mul-right perOne T-size) (le-of-eq (mul-assoc 150 perOne perOne))) (le-trans (le-of-eq (sym (one-mul perOne))) (mul-le-mul-right perOne perOne-pos)) (m .least)
+
+  -- a scale for y
+  ν : ℕ
+  ν = mag y / 2 ^ 53 + 1
+
+  y-scale : Scale ν
+  unfolding ν perOne
+  y-scale = record { positive = one-more (mag y / 2 ^ 53); bounded = le-trans (small (mag y) (2 ^ 1209) (le-trans y-most (lit≤ tt))) (lit≤ tt) }
+    where
+      one-more : (n : ℕ) → 0 < n + 1
+      one-more n = omega arith
+
+      small : (m b : ℕ) → m ≤ b → m / 2 ^ 53 + 1 ≤ b + 1
+      small m b h = omega arith
+
+  y-own : Bound ν (2 ^ 53) y
+  unfolding ν
+  y-own = record { scale = y-scale; number = Y; size = over (mag y) }
+    where
+      over : (m : ℕ) → m ≤ 2 ^ 53 * (m / 2 ^ 53 + 1)
+      over m = omega arith
+
+  -- and for the product: 152
+  product-scale : Scale (152 * S)
+  unfolding S
+  product-scale = record { positive = lit< tt; bounded = lit≤ tt }
+
+  through : Through (logs .μ) ν (152 * S)
+  unfolding ν
+  through = record { scale = product-scale; le = le-trans (joined (logs .μ) (mag y) (mag l) S (logs .size) whole (logs .above .size) (mul-le-mul-right S large-scale)) (le-of-eq (turn S)) }
+    where
+      whole : mag l * mag y ≤ 151 * (S * S) * 2 ^ 106
+      whole = le-trans sizes (le-of-eq (ap₂ (λ (a b : ℕ). 151 * (a * b)) one-is one-is ∙ spread S))
+        where
+          spread : (s : ℕ) → 151 * (s * 2 ^ 53 * (s * 2 ^ 53)) ≡ 151 * (s * s) * 2 ^ 106
+          spread s = omega arith
+
+      turn : (s : ℕ) → 152 * (s * s) ≡ s * (152 * s)
+      turn s = omega arith
+
+      joined : (μ m l s : ℕ) → 2 ^ 53 * μ ≤ l → l * m ≤ 151 * (s * s) * 2 ^ 106 → l ≤ 2 ^ 62 * s → 512 * s ≤ s * s → μ * (m / 2 ^ 53 + 1) ≤ 152 * (s * s)
+      joined μ m l s g h k large =
+          let parts : μ * (m / 2 ^ 53) * 2 ^ 106 ≤ 151 * (s * s) * 2 ^ 106 = le-trans (le-of-eq (gather μ (m / 2 ^ 53))) (le-trans (mul-le-mul g (whole-part m)) h) in
+          le-trans (le-of-eq (one-more μ (m / 2 ^ 53))) (le-trans (add-le-add (le-of-mul-le-mul-right parts (lit< tt)) (le-trans (small μ l s g k) large)) (le-of-eq (together s)))
+        where
+          gather : (μ n : ℕ) → μ * n * 2 ^ 106 ≡ 2 ^ 53 * μ * (n * 2 ^ 53)
+          gather μ n = omega arith
+
+          whole-part : (m : ℕ) → m / 2 ^ 53 * 2 ^ 53 ≤ m
+          whole-part m = omega arith
+
+          small : (μ l s : ℕ) → 2 ^ 53 * μ ≤ l → l ≤ 2 ^ 62 * s → μ ≤ 512 * s
+          small μ l s g k = omega arith
+
+          one-more : (μ n : ℕ) → μ * (n + 1) ≡ μ * n + μ
+          one-more μ n = omega arith
+
+          together : (s : ℕ) → 151 * (s * s) + s * s ≡ 152 * (s * s)
+          together s = omega arith
+
