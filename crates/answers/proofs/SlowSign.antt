@@ -4,11 +4,11 @@ use mathlib.Core.Path.{_≡_, refl, sym, ap, ap₂, _∙_, subst}
 use mathlib.Core.Logic.{_⊎_, inl, inr}
 use mathlib.Core.Bool.{Bool, true, false, not, cond, _&&_, true≢false}
 use Prim.Native.Nat.{ℕ, zero, suc, _+_, _-_, _*_, _/_, _%_, _^_, _≤_, _<_, zero-le}
-use native.Mathlib.Nat.{le-refl, le-trans, le-of-eq, le-of-lt, lt-of-lt-of-le, le-of-mul-le-mul-right, mul-assoc, mul-comm, mul-le-mul, mul-le-mul-right, mul-pos, zero-mul, one-mul, zero-add, add-zero, add-le-add}
+use native.Mathlib.Nat.{le-refl, le-trans, le-of-eq, le-of-lt, lt-of-lt-of-le, le-of-mul-le-mul-right, mul-assoc, mul-comm, mul-le-mul, mul-le-mul-right, mul-pos, zero-mul, one-mul, zero-add, add-zero, add-le-add, not-le-of-lt}
 use native.Mathlib.Omega.{arith}
 use lib.Dec.{T, leb, lit≤, lit<}
 use lib.IntN.{ℤ, pos, negsuc}
-use lib.Ieee.{Float, nan, inf, fin, Format, binary32, binary64, up, down, fits, toBits, ofBits, add, mul, sub, lt, le, eq}
+use lib.Ieee.{Float, nan, inf, fin, Format, binary32, binary64, size, fits, toBits, ofBits, add, lt, le, eq}
 use lib.Ieee.Fits.{and-r, add-fits, sub-fits, mul-fits}
 use lib.Ieee.Scale.{finite}
 use Rattle.floats.specs.Operations.{_⊕_, _⊖_, _⊗_, f64}
@@ -17,19 +17,21 @@ use Rattle.floats.specs.OnBits.{absolute}
 use Rattle.floats.proofs.Laws.Narrow.{narrowed-same}
 use Rattle.floats.proofs.Laws.Order.{clear, or-l}
 use Rattle.floats.proofs.Laws.Sums.{whole-distance}
+use Rattle.floats.proofs.Laws.Place.{place}
 use Rattle.floats.proofs.Laws.Units.{exponent, fits-signed, bits-of-value}
 use Rattle.double_double.specs.declared.DoubleDouble.{DoubleDouble}
 use Rattle.double_double.specs.DoubleDouble.{fromExactAdd, quickMultF64}
+use Rattle.compound.specs.Special as Special
 use Rattle.compound.specs.Special.{one, minusOne}
 use Rattle.compound.specs.Fast.{compoundfLog2p1Fast}
 use Rattle.compound.specs.Slow.{onePlus, compoundfLog2p1Accurate, isNearOne, exp2Away, exp2Accurate, compoundfAccurate}
 use Rattle.compound.specs.Route.{Tabled}
 use Rattle.compound.proofs.Index.{between-finite}
 use Rattle.compound.proofs.Scaled.{sum-clear, one-plus-bits}
-use Rattle.bounds.proofs.Values.{perOne, perOne-pos, plus, less, mag, one-side, Number}
+use Rattle.bounds.proofs.Values.{perOne, perOne-pos, plus, less, mag, mag-of, one-side, Number}
 use Rattle.bounds.proofs.Operation.{limit, mul-near, nothing}
 use Rattle.bounds.proofs.Sums.{sides}
-use Rattle.bounds.proofs.Scales.{S, S-pos, one-is, unit, unit-left, Scale, Through, Bound, Bounds, at, onto, mul-bound, mul-limit, quick-f64-bounds, tested}
+use Rattle.bounds.proofs.Scales.{S, S-pos, one-is, unit, unit-left, Scale, Through, Bound, Bounds, at, onto, mul-bound, mul-limit, quick-f64-bounds, productK, quickF64LoK, tested}
 use Rattle.bounds.proofs.Compared.{Positive, positive-add, positive-at, le-units, le-of-units, le-other}
 use Rattle.bounds.proofs.Exactly.{add-turned}
 use Rattle.answers.proofs.ExpSign.{away-clear}
@@ -199,3 +201,125 @@ module _ (l y : Float) (L : DoubleDouble) (logs : Logs l L) (Y : Number y) (y-mo
           together : (s : ℕ) → 151 * (s * s) + s * s ≡ 152 * (s * s)
           together s = omega arith
 
+
+  pub exponent-size : Bounds (152 * S) (productK (72 * 2 ^ 53) (2 ^ 53)) (quickF64LoK (72 * 2 ^ 53) (2 ^ 35) (2 ^ 53)) (quickMultF64 L y)
+  exponent-size = quick-f64-bounds through (logs .accurate) y-own tt
+
+  pub second-part : Bound S (2 ^ 45) (quickMultF64 L y .lo)
+  second-part = onto S (2 ^ 45) unit (exponent-size .lo) (le-trans (le-of-eq (sym (mul-assoc (quickF64LoK (72 * 2 ^ 53) (2 ^ 35) (2 ^ 53)) 152 S))) (mul-le-mul-right S (lit≤ tt)))
+
+-- ---- 2 to that power
+positive-clear : {a b : ℕ} {x : Float} → Positive a b x → 0 < a → T (clear x)
+positive-clear {a} {b} {x} p h = go x (p .number) (lt-of-lt-of-le (mul-pos h S-pos) (p .least))
+  where
+    go : (x : Float) → Number x → 0 < plus x → T (clear x)
+    go nan n h = n .plain
+    go (inf s) n h = absurd (n .plain)
+    go (fin true m e) n h = absurd (not-le-of-lt h (le-refl 0))
+    go (fin false m e) n h = tt
+
+-- near 0 the answer is 1 and a little
+abbrev least-exponent : Float
+least-exponent = f64 0x3e6715476af0d4c8
+
+abbrev half : Float
+half = f64 0x3fe0000000000000
+
+least-is : Bound S (2 ^ 30) least-exponent
+unfolding ofBits fits
+least-is = tested (2 ^ 30) least-exponent tt
+
+half-is : Bound S (2 ^ 52) half
+unfolding ofBits fits
+half-is = tested (2 ^ 52) half tt
+
+near-one-clear : (h : Float) → Number h → T (le (absolute h) least-exponent) → T (clear (narrowed (one ⊕ h ⊗ half)))
+near-one-clear h n t =
+    let w = absolute-units h n in
+    let c = least-is in
+    let H : Bound S (2 ^ 30) h = record { scale = unit; number = n; size = under (plus (absolute h)) (less (absolute h)) (plus least-exponent) (less least-exponent) (mag h) (2 ^ 30 * S) (w .1) (w .2) (c .size) (le-units (absolute h) least-exponent (w .0) (c .number) t) } in
+    let m = mul-bound (unit-left unit) H half-is tt tt in
+    let s = positive-add one-is-1 (at (2 ^ 30) m tt) tt tt in
+    plain-narrowed (one ⊕ h ⊗ half) (positive-clear s (lit< tt)) .is-clear
+  where
+    under : (p n q m x b : ℕ) → p ≡ x → n ≡ 0 → q + m ≤ b → p + m ≤ q + n → x ≤ b
+    under p n q m x b e z h g = omega arith
+
+-- 1/2 and -1/2
+halves : Number (fin false 1 (negsuc 0)) × (plus (fin false 1 (negsuc 0)) ≡ 2 ^ 52 * S) × (less (fin false 1 (negsuc 0)) ≡ 0)
+    × Number (fin true 1 (negsuc 0)) × (plus (fin true 1 (negsuc 0)) ≡ 0) × (less (fin true 1 (negsuc 0)) ≡ 2 ^ 52 * S)
+unfolding fits S
+halves = (record { held = tt; plain = tt }, refl, refl, record { held = tt; plain = tt }, refl, refl)
+
+-- what is left over the nearest whole number is a half at most
+distance : (h : Float) → Number h → Bound S (2 ^ 52) (h ⊖ nearestWhole h)
+distance h n =
+    let r = h ⊖ nearestWhole h in
+    let d = whole-distance h (n .held) (n .plain) in
+    let m : Number r = record { held = sub-fits binary64 h (nearestWhole h); plain = between-finite (fin true 1 (negsuc 0)) r (fin false 1 (negsuc 0)) tt tt (d .0) (d .1) } in
+    let H = halves in
+    record {
+      scale = unit;
+      number = m;
+      size = sides (plus r) (less r) (2 ^ 52 * S) (one-side r)
+          (above (plus r) (less r) (plus (fin false 1 (negsuc 0))) (less (fin false 1 (negsuc 0))) (2 ^ 52 * S) (H .1) (H .2) (le-units r (fin false 1 (negsuc 0)) m (H .0) (d .1)))
+          (below (plus r) (less r) (plus (fin true 1 (negsuc 0))) (less (fin true 1 (negsuc 0))) (2 ^ 52 * S) (H .4) (H .5) (le-units (fin true 1 (negsuc 0)) r (H .3) m (d .0)));
+    }
+  where
+    above : (p n q m b : ℕ) → q ≡ b → m ≡ 0 → p + m ≤ q + n → p ≤ n + b
+    above p n q m b e z h = omega arith
+
+    below : (p n q m b : ℕ) → q ≡ 0 → m ≡ b → q + n ≤ p + m → n ≤ p + b
+    below p n q m b e z h = omega arith
+
+tested-small : (k h : Float) → isNearOne k h ≡ true → T (le (absolute h) least-exponent)
+unfolding isNearOne
+tested-small k h e = and-r (eq k Special.zero) (le (absolute h) least-exponent) (subst T (sym e) tt)
+
+pub exp2-clear : (t : DoubleDouble) → Number (t .hi) → Bound S (2 ^ 45) (t .lo) → T (clear (exp2Accurate t))
+unfolding exp2Accurate
+exp2-clear t n b = go (isNearOne (nearestWhole (t .hi)) (t .hi)) refl
+  where
+    go : (c : Bool) → isNearOne (nearestWhole (t .hi)) (t .hi) ≡ c → T (clear (cond c (narrowed (one ⊕ t .hi ⊗ half)) (exp2Away t (nearestWhole (t .hi)))))
+    go true e = near-one-clear (t .hi) n (tested-small (nearestWhole (t .hi)) (t .hi) e)
+    go false e = away-clear t (nearestWhole (t .hi)) (distance (t .hi) n) b
+
+-- ---- a logarithm of 0 goes to the route `edge`
+zero-bits : (t : Float) → T (fits binary64 t) → T (finite t) → mag t ≡ 0 → toBits binary64 t * 2 % 2 ^ 64 ≡ 0
+unfolding size
+zero-bits nan f p h = absurd p
+zero-bits (inf s) f p h = absurd p
+zero-bits (fin s m e) f p h = ap (λ (n : ℕ). n * 2 % 2 ^ 64) (bits-of-value binary64 s m e f ∙ ap (λ (n : ℕ). cond s (2 ^ 63) 0 + place 53 n) (sym (mag-of s (m * 2 ^ exponent 1074 e)) ∙ h)) ∙ go s
+  where
+    go : (s : Bool) → (cond s (2 ^ 63) 0 + place 53 0) * 2 % 2 ^ 64 ≡ 0
+    go true = refl
+    go false = refl
+
+nil-bits : (l y : Float) → Nil l → Number y → toBits binary64 (l ⊗ y) * 2 % 2 ^ 64 ≡ 0
+nil-bits l y z Y =
+    let none : mag l * mag y ≡ 0 = ap (λ (k : ℕ). k * mag y) (z .is) ∙ zero-mul (mag y) in
+    let m = mul-near (z .number) Y (le-trans (le-of-eq none) zero-le) in
+    zero-bits (l ⊗ y) (m .number .held) (m .number .plain) (nothing (mag (l ⊗ y)) (mag l * mag y) perOne perOne-pos none (m .most))
+
+-- ---- the theorem
+one-plus-f32 : (x : Float) → T (finite x) → T (lt minusOne x) → T (clear (add binary32 one x))
+one-plus-f32 nan p h = absurd p
+one-plus-f32 (inf s) p h = absurd p
+one-plus-f32 (fin s m e) p h = sum-clear binary32 s m e h
+
+pub slow-clear : SlowClear
+unfolding compoundfAccurate
+slow-clear x y tabled low high apart = go (eq y one)
+  where
+    Y : Number y × (mag y ≤ 2 ^ 128 * perOne)
+    Y = f32-number y (tabled .y-fits) (tabled .y-finite)
+
+    by-logs : Logs (compoundfLog2p1Fast x) (compoundfLog2p1Accurate x) ⊎ Nil (compoundfLog2p1Fast x) → T (clear (exp2Accurate (quickMultF64 (compoundfLog2p1Accurate x) y)))
+    by-logs (inl logs) =
+        let t = t-number (compoundfLog2p1Fast x ⊗ y) (mul-fits binary64 (compoundfLog2p1Fast x) y) low high in
+        exp2-clear (quickMultF64 (compoundfLog2p1Accurate x) y) (exponent-size (compoundfLog2p1Fast x) y (compoundfLog2p1Accurate x) logs (Y .0) (Y .1) (t .1) .hi .number) (second-part (compoundfLog2p1Fast x) y (compoundfLog2p1Accurate x) logs (Y .0) (Y .1) (t .1))
+    by-logs (inr nil) = absurd (true≢false (sym (ap (λ (n : ℕ). leb n 0x3e6715476ba97f14) (nil-bits (compoundfLog2p1Fast x) y nil (Y .0))) ∙ apart))
+
+    go : (b : Bool) → T (clear (cond b (add binary32 one x) (exp2Accurate (quickMultF64 (compoundfLog2p1Accurate x) y))))
+    go true = one-plus-f32 x (tabled .x-finite) (tabled .x-above)
+    go false = by-logs (both-logs x (tabled .x-fits) (tabled .x-finite) (tabled .x-above))
