@@ -364,6 +364,11 @@ RANGES = [
         f"|x| from 2^-120 to 2^-53, {REACH}",
         both(lambda r: wide(r, -120, -53), y_in_reach),
     ),
+    (
+        "better cells",
+        "x from -1e-6 to -1e-16, y from 1 to 1e5",
+        both(lambda r: SIGN | r.size(1e-16, 1e-6), lambda r, x: r.size(1, 1e5)),
+    ),
 ]
 
 
