@@ -76,6 +76,12 @@ def nearest(m, e, slack=0):
     return (place + 149 << 23) + n
 
 
+# Whether m * 2^e is exactly in the middle of two f32s.
+def is_tie(m, e):
+    shift = last_place(m, e) - e
+    return shift > 0 and m & (1 << shift) - 1 == 1 << shift - 1
+
+
 # How far the finite f32 r is from m * 2^e, in last places of the latter.
 def ulps(r, m, e):
     a, f = parts(r)
@@ -393,7 +399,7 @@ SIZES = [one_binade("-", k) for k in BINADES] + [one_binade("+", k) for k in ran
 # misrounded, as a tie may be.
 class Tally:
     def __init__(self):
-        self.pairs = self.by_one = self.by_more = self.infinite = 0
+        self.pairs = self.ties = self.by_one = self.by_more = self.infinite = 0
         self.wrong = []
         self.worst, self.at = (-1.0, False), "none is finite"
 
@@ -407,6 +413,7 @@ class Tally:
         if INFINITY in (r, right):
             self.infinite += r != right
             return
+        self.ties += is_tie(*value)
         error = ulps(r, *value), r != right
         if error > self.worst:
             self.worst = error
@@ -420,6 +427,7 @@ class Tally:
     # Both together.
     def plus(self, other):
         self.pairs += other.pairs
+        self.ties += other.ties
         self.by_one += other.by_one
         self.by_more += other.by_more
         self.infinite += other.infinite
@@ -429,15 +437,16 @@ class Tally:
 
     # The cells of a row.
     def cells(self):
-        counts = (self.pairs, self.by_one + self.by_more, self.by_one, self.by_more, self.infinite)
+        counts = [self.pairs, self.ties, self.by_one + self.by_more]
+        counts += [self.by_one, self.by_more, self.infinite]
         sizes = " to ".join(f"{size:.2e}" for size in self.wrong)
         error = self.worst[0]
         worst = "" if error < 0 else f"{error:.6f}" if error < 100 else f"{error:.3g}"
         return [*(f"{n:,}" for n in counts), sizes, worst, self.at]
 
 
-COLUMNS = ["Pairs", "Misrounded", "by one f32", "by more", "infinity wrong", "sizes of their x"]
-COLUMNS += ["Worst error, ulps", "at x y: answer"]
+COLUMNS = ["Pairs", "Ties", "Misrounded", "by one f32", "by more", "infinity wrong"]
+COLUMNS += ["sizes of their x", "Worst error, ulps", "at x y: answer"]
 
 
 # Prints a row of a table.
@@ -587,7 +596,7 @@ def test_rounding(random):
     for value, right in TURNS:
         require(nearest(*value) == right, f"the rounding of {value}")
     for r, value in (ONE, (2**24 + 1, -24)), (ONE, (2**25 - 1, -25)), (1, (1, -150)):
-        require(ulps(r, *value) == 0.5, f"the distance of {r:08x} from {value}")
+        require(ulps(r, *value) == 0.5 and is_tie(*value), f"the tie {value} by {r:08x}")
     for _ in range(20_000):
         m, e = random.within(2**24, 2**25), random.within(-150, 102)
         if random.within(0, 1):
