@@ -108,7 +108,8 @@ def operands(x, y):
 
 # Whether demand 3 bounds the answer: y whole, 1 <= |y| <= 16, x nonzero, -1 < x < 2^64.
 def is_whole(x, y):
-    return number(y).is_integer() and 1 <= abs(number(y)) <= 16 and number(x) < 2.0**64
+    base, n = number(x), number(y)
+    return n.is_integer() and 1 <= abs(n) <= 16 and base != 0 and -1 < base < 2.0**64
 
 
 # A fraction times 2^e, cut after so many digits that no rounding to f32 is near; an odd last digit
