@@ -1,10 +1,11 @@
 // The Rust beside it: compares the exports of our static library with the crate's own functions,
 // value by value. Without an argument in the short form, with `long` in the long one; with
-// `compound` only the answers for pairs. With `bench` it measures both instead, and with `vectors`
-// it writes the list of pairs for the replay.
+// `compound` only the answers for pairs. With `bench` it measures both instead, with `vectors` it
+// writes the list of pairs for the replay, and with `answers` it answers the pairs that it reads.
 
 #![allow(dead_code)]
 
+mod answers;
 mod bench;
 mod bits;
 mod checks;
@@ -52,8 +53,13 @@ fn main() -> ExitCode {
             vectors::write();
             return ExitCode::SUCCESS;
         }
+        ["answers"] => {
+            answers::answer();
+            return ExitCode::SUCCESS;
+        }
         _ => {
-            eprintln!("oracle: the arguments are [long] [compound], or bench, or vectors");
+            eprintln!("oracle: the arguments are [long] [compound], bench, vectors, answers;");
+            eprintln!("  of oracle/run also accuracy [slow] [count] [range]...");
             return ExitCode::from(2);
         }
     };
