@@ -1,26 +1,5 @@
--- The theorems, and the laws under them: NaN and sign by routes, the slow path, and the bound on whole exponents.
-pub mod Plain
-pub mod RuleValues
-pub mod WholeValues
-pub mod TableValues
+-- The three theorems, joined in EveryAnswer, and the laws under them: NaN and sign by routes (Signs), the slow path (Slow), the bound on whole exponents (Whole).
+pub mod Slow
 pub mod Signs
-pub mod Coefficients
-pub mod ExpSize
-pub mod Factors
-pub mod Within
-pub mod Squared
-pub mod Ends
-pub mod OnePlus
-pub mod Asked
-pub mod WholeBound
-pub mod PowerSlot
-pub mod ExpSign
-pub mod InverseSlot
-pub mod LogSize
-pub mod Logs
-pub mod Reduced
-pub mod LowPart
-pub mod OnePlusParts
-pub mod LogCases
-pub mod Lost
-pub mod SlowSign
+pub mod Whole
+pub mod EveryAnswer

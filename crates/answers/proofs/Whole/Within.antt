@@ -16,7 +16,7 @@ use Rattle.floats.proofs.Laws.Overflow.{halfway, round-stays}
 use Rattle.floats.proofs.Laws.Rounding.{relative-error}
 use Rattle.compound.specs.Special.{one}
 use Rattle.compound.proofs.Tests.{second}
-use Rattle.answers.proofs.Factors.{Close, turned, joined, product, looser}
+use Rattle.answers.proofs.Whole.Factors.{Close, turned, joined, product, looser}
 
 -- one factor of f64
 abbrev pub near : ℕ

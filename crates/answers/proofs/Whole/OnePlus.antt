@@ -19,9 +19,9 @@ use Rattle.compound.specs.Special.{one, minusOne}
 use Rattle.compound.specs.Whole.{isTiny}
 use Rattle.compound.proofs.Tests.{first}
 use Rattle.answers.specs.Exact.{onePlus}
-use Rattle.answers.proofs.Factors.{Close}
-use Rattle.answers.proofs.Within.{Within, rounded}
-use Rattle.answers.proofs.Squared.{Base}
+use Rattle.answers.proofs.Whole.Factors.{Close}
+use Rattle.answers.proofs.Whole.Within.{Within, rounded}
+use Rattle.answers.proofs.Whole.Squared.{Base}
 
 -- ---- the sum
 sum-more : (a d : ℕ) → a * 1 + 1 * d ≡ d + a

@@ -17,7 +17,7 @@ use Rattle.bounds.proofs.Operation.{limit, mul-near}
 use Rattle.bounds.proofs.Scales.{S, S-pos, one-is, unit, unit-left, unit-right, Scale, Bound, Bounds, at, onto, ok, add-bound, mul-bound, mul-limit}
 use Rattle.bounds.proofs.Distances.{apart-at, apart-through, add-apart, add-apart-right, not-less}
 use Rattle.bounds.proofs.Compared.{Positive, positive-bound}
-use Rattle.answers.proofs.LogSize.{factor, fast-is, fast-factor, poly-size, logs-size}
+use Rattle.answers.proofs.Slow.LogSize.{factor, fast-is, fast-factor, poly-size, logs-size}
 
 pub record Logs (l : Float) (L : DoubleDouble) : Type 0 where
   pub μ : ℕ

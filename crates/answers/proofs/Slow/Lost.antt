@@ -26,10 +26,10 @@ use Rattle.compound.proofs.Index.{pattern-between}
 use Rattle.bounds.proofs.Values.{plus, less, mag, Number}
 use Rattle.bounds.proofs.Scales.{S, unit, unit-left, Scale, Bound, Bounds, at, mul-bound, fast-bounds, tested}
 use Rattle.bounds.proofs.Compared.{le-of-units, positive-bound}
-use Rattle.answers.proofs.Logs.{Logs, near, nought}
-use Rattle.answers.proofs.LogCases.{Nil}
-use Rattle.answers.proofs.LowPart.{one-is-1}
-use Rattle.answers.proofs.Reduced.{no-power, one-19}
+use Rattle.answers.proofs.Slow.Logs.{Logs, near, nought}
+use Rattle.answers.proofs.Slow.LogCases.{Nil}
+use Rattle.answers.proofs.Slow.LowPart.{one-is-1}
+use Rattle.answers.proofs.Slow.Reduced.{no-power, one-19}
 
 -- ---- the f64 sum, by its pattern
 abbrev tiny : Float

@@ -21,7 +21,7 @@ use Rattle.compound.specs.Special as Special
 use Rattle.compound.specs.Fast.{compoundfLog2p1Fast, roundingTest, exp2Fast}
 use Rattle.compound.specs.Slow.{compoundfLog2p1Accurate, isNearOne, scaledToF32, exp2Away, exp2Accurate, compoundfAccurate}
 use Rattle.compound.specs.Route.{Tabled, decided, fromLogarithm, tablePath}
-use Rattle.answers.proofs.Plain.{Plain, plain-zero, plain-one, plain-infinity, plain-narrowed, either}
+use Rattle.answers.proofs.Signs.Plain.{Plain, plain-zero, plain-one, plain-infinity, plain-narrowed, either}
 
 -- what is left to show of the slow path: its value has a clear sign where the tests of the route `edge` fail
 abbrev pub SlowClear : Type 0

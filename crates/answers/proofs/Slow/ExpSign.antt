@@ -22,9 +22,9 @@ use Rattle.compound.specs.Slow.{clampedIndex, clampedK, testPattern, isLost, on
 use Rattle.compound.proofs.Index.{clamped-k-within}
 use Rattle.bounds.proofs.Scales.{S, Bound, at, fast-bounds}
 use Rattle.bounds.proofs.Compared.{Positive, positive-at, positive-add, positive-bits}
-use Rattle.answers.proofs.Plain.{Plain, plain-narrowed}
-use Rattle.answers.proofs.ExpSize.{Product, product-near-one}
-use Rattle.answers.proofs.PowerSlot.{Slot, power-slot}
+use Rattle.answers.proofs.Signs.Plain.{Plain, plain-narrowed}
+use Rattle.answers.proofs.Slow.ExpSize.{Product, product-near-one}
+use Rattle.answers.proofs.Slow.PowerSlot.{Slot, power-slot}
 
 -- ---- the pattern, with k added to the exponent's field
 abbrev Middle : ℕ → Type 0

@@ -32,13 +32,13 @@ use Rattle.bounds.proofs.Sums.{add-mag, sum-small}
 use Rattle.bounds.proofs.Scales.{S, S-pos, one-is, unit, unit-left, unit-right, Scale, Bound, Bounds, at, onto, add-bound, mul-bound, mul-limit, fast-bounds, tested}
 use Rattle.bounds.proofs.Compared.{Positive, positive-bound}
 use Rattle.bounds.proofs.Exactly.{Off, fmla-minus-one}
-use Rattle.answers.proofs.Coefficients.{inverse-log-hi, inverse-log-lo}
-use Rattle.answers.proofs.InverseSlot.{inverse-slot, inverse-size}
-use Rattle.answers.proofs.LogSize.{factor, fast-is, fast-factor, poly-size}
-use Rattle.answers.proofs.Logs.{Logs, far-whole, far-part, near}
-use Rattle.answers.proofs.LowPart.{one-is-1, scale-size, low-part}
-use Rattle.answers.proofs.OnePlusParts.{Parted}
-use Rattle.answers.proofs.Reduced.{reduced-positive, Power, exponent-size, no-power, One, inverse-cases}
+use Rattle.answers.proofs.Slow.Coefficients.{inverse-log-hi, inverse-log-lo}
+use Rattle.answers.proofs.Slow.InverseSlot.{inverse-slot, inverse-size}
+use Rattle.answers.proofs.Slow.LogSize.{factor, fast-is, fast-factor, poly-size}
+use Rattle.answers.proofs.Slow.Logs.{Logs, far-whole, far-part, near}
+use Rattle.answers.proofs.Slow.LowPart.{one-is-1, scale-size, low-part}
+use Rattle.answers.proofs.Slow.OnePlusParts.{Parted}
+use Rattle.answers.proofs.Slow.Reduced.{reduced-positive, Power, exponent-size, no-power, One, inverse-cases}
 
 -- the fast logarithm is 0
 pub record Nil (l : Float) : Type 0 where

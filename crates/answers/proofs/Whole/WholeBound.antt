@@ -19,12 +19,12 @@ use Rattle.compound.proofs.Tiny.{tiny-is-one}
 use Rattle.answers.specs.Exact as Exact
 use Rattle.answers.specs.Exact.{Fraction, onePlus, exact}
 use Rattle.answers.specs.Claims.{Near, answer, wholeBound}
-use Rattle.answers.proofs.Factors.{Close, turned, looser, powers}
-use Rattle.answers.proofs.Within.{Within, within-more, Reciprocal, normal, small, reciprocal}
-use Rattle.answers.proofs.Squared.{Base, room, power-within}
-use Rattle.answers.proofs.Ends.{Fine, between, around-zero, around-one}
-use Rattle.answers.proofs.OnePlus.{base, sum-within, tiny-close}
-use Rattle.answers.proofs.Asked.{AskedX, asked-x, AskedY, asked-y, size, size-from-1, size-to-16, cast-is, sign-is, not-rule, takes-whole, on-route}
+use Rattle.answers.proofs.Whole.Factors.{Close, turned, looser, powers}
+use Rattle.answers.proofs.Whole.Within.{Within, within-more, Reciprocal, normal, small, reciprocal}
+use Rattle.answers.proofs.Whole.Squared.{Base, room, power-within}
+use Rattle.answers.proofs.Whole.Ends.{Fine, between, around-zero, around-one}
+use Rattle.answers.proofs.Whole.OnePlus.{base, sum-within, tiny-close}
+use Rattle.answers.proofs.Whole.Asked.{AskedX, asked-x, AskedY, asked-y, size, size-from-1, size-to-16, cast-is, sign-is, not-rule, takes-whole, on-route}
 
 -- ---- the value of the route
 one-power : (n : ℕ) → 1 ^ n ≡ 1

@@ -23,7 +23,7 @@ use Rattle.compound.specs.Special as Special
 use Rattle.compound.specs.Special.{one, minusOne}
 use Rattle.compound.specs.Whole.{isWhole, isTiny, tiny, squarings, power, whole}
 use Rattle.compound.proofs.Tiny.{tiny-is-one}
-use Rattle.answers.proofs.Plain.{Plain, plain-one, plain-narrowed, either}
+use Rattle.answers.proofs.Signs.Plain.{Plain, plain-one, plain-narrowed, either}
 
 -- ---- products of values from 1 up
 -- such a value has a clear sign

@@ -11,7 +11,7 @@ use Rattle.tables.specs.Tables.{entry, pairEntry, compoundfExp2T, compoundfExp2
 use Rattle.compound.specs.Slow.{q2, nextExp2, highestExp2, compoundfExp2Poly2, exp2Product}
 use Rattle.bounds.proofs.Scales.{S, unit, Bound, Bounds, at, unit-left, add-bound, mul-bound, fast-bounds, quick-bounds, fmla-bound}
 use Rattle.bounds.proofs.Compared.{Positive, positive-at, positive-bound, positive-add, positive-mul}
-use Rattle.answers.proofs.Coefficients.{q2-size, q2-second, q2-first, power-hi, power-lo}
+use Rattle.answers.proofs.Slow.Coefficients.{q2-size, q2-second, q2-first, power-hi, power-lo}
 
 -- ---- the polynomial, for |z| up to 1/32 + 2^-12
 -- the terms of degree 4 and above

@@ -19,8 +19,8 @@ use Rattle.floats.proofs.Laws.Order.{clear, pattern-mono, round-clear, round-at
 use Rattle.compound.specs.Special as Special
 use Rattle.answers.specs.Exact.{Fraction}
 use Rattle.answers.specs.Claims.{Near}
-use Rattle.answers.proofs.Factors.{Close}
-use Rattle.answers.proofs.Within.{near, full, Within}
+use Rattle.answers.proofs.Whole.Factors.{Close}
+use Rattle.answers.proofs.Whole.Within.{near, full, Within}
 
 -- What is asked of k. 33 factors change a fraction by 2^-k of it at most (`lower`, `upper`). What is within them of 2^-1022, times 1 - 2^-k, is 2^-150 at
 -- most (`zero`). And what is within 16 factors (2^29 - 1) / 2^29 of 1, times 1 - 2^-k, is 1 + 2^-25 at most, and times 1 + 2^-k, 1 - 2^-25 at least

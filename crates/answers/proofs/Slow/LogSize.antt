@@ -17,7 +17,7 @@ use Rattle.compound.specs.Slow.{p, droppingH, nextLog2, higher, log2Poly2, sumO
 use Rattle.bounds.proofs.Scales.{S, unit, unit-left, unit-right, Scale, Through, Bound, Bounds, at, ok, sumK, productK, fastK, quickLoK, quickOk, add-bound, mul-bound, fast-bounds, quick-bounds, quick-f64-bounds, fmla-bound}
 use Rattle.bounds.proofs.Distances.{Apart, apart-through, fmla-apart}
 use Rattle.bounds.proofs.Compared.{Positive, positive-at, positive-bound, positive-near}
-use Rattle.answers.proofs.Coefficients.{fast-first, fast-second, fast-size, log-size, log-second}
+use Rattle.answers.proofs.Slow.Coefficients.{fast-first, fast-second, fast-size, log-size, log-second}
 
 -- ---- the fast polynomial
 -- what z is multiplied by

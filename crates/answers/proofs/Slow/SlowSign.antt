@@ -34,14 +34,14 @@ use Rattle.bounds.proofs.Sums.{sides}
 use Rattle.bounds.proofs.Scales.{S, S-pos, one-is, unit, unit-left, Scale, Through, Bound, Bounds, at, onto, mul-bound, mul-limit, quick-f64-bounds, productK, quickF64LoK, tested}
 use Rattle.bounds.proofs.Compared.{Positive, positive-add, positive-at, le-units, le-of-units, le-other}
 use Rattle.bounds.proofs.Exactly.{add-turned}
-use Rattle.answers.proofs.ExpSign.{away-clear}
-use Rattle.answers.proofs.LogCases.{Nil, parted-logs}
-use Rattle.answers.proofs.Logs.{Logs}
-use Rattle.answers.proofs.Lost.{lost-logs}
-use Rattle.answers.proofs.LowPart.{one-is-1, one-mag, f32-number, above-minus-one, least-units}
-use Rattle.answers.proofs.OnePlusParts.{Above, Parted, parted-low, parted-high}
-use Rattle.answers.proofs.Plain.{plain-narrowed}
-use Rattle.answers.proofs.TableValues.{SlowClear}
+use Rattle.answers.proofs.Slow.ExpSign.{away-clear}
+use Rattle.answers.proofs.Slow.LogCases.{Nil, parted-logs}
+use Rattle.answers.proofs.Slow.Logs.{Logs}
+use Rattle.answers.proofs.Slow.Lost.{lost-logs}
+use Rattle.answers.proofs.Slow.LowPart.{one-is-1, one-mag, f32-number, above-minus-one, least-units}
+use Rattle.answers.proofs.Slow.OnePlusParts.{Above, Parted, parted-low, parted-high}
+use Rattle.answers.proofs.Signs.Plain.{plain-narrowed}
+use Rattle.answers.proofs.Signs.TableValues.{SlowClear}
 
 -- ---- the two logarithms, for every x
 abbrev tiny : Float

@@ -19,7 +19,7 @@ use Rattle.bounds.proofs.Sums.{sides, sum-small, fast-sum}
 use Rattle.bounds.proofs.Scales.{S, S-pos, one-is, Scale, Bound, at, sub-small-bound}
 use Rattle.bounds.proofs.Compared.{Positive, le-units}
 use Rattle.bounds.proofs.Exactly.{add-turned, Off, minus-one}
-use Rattle.answers.proofs.LowPart.{one-is-1, one-mag, f32-number, above-minus-one, sum-limit, sum-least}
+use Rattle.answers.proofs.Slow.LowPart.{one-is-1, one-mag, f32-number, above-minus-one, sum-limit, sum-least}
 
 -- what is asked of x, in units
 pub record Above (x : Float) : Type 0 where

@@ -6,7 +6,7 @@ use mathlib.Core.List.{List, [], _∷_}
 use lib.Ieee.{Float, nan, isNan, lt}
 use Rattle.compound.specs.Special.{minusOne, isRule, specialTable, firstThatFits, special}
 use Rattle.compound.proofs.Rule.{anyRowFits, a-row-fits}
-use Rattle.answers.proofs.Plain.{Plain, AsTold, plain-zero, plain-one, plain-infinity}
+use Rattle.answers.proofs.Signs.Plain.{Plain, AsTold, plain-zero, plain-one, plain-infinity}
 
 -- every row of a table has a plain value, and so has the first that fits
 abbrev PlainRows : List (Bool × Float) → Type 0

@@ -13,8 +13,8 @@ use lib.Ieee.{Float}
 use Rattle.floats.specs.Operations.{_⊗_}
 use Rattle.compound.specs.Special.{one}
 use Rattle.compound.specs.Whole.{squarings, power}
-use Rattle.answers.proofs.Factors.{equal, power-of-product}
-use Rattle.answers.proofs.Within.{near, full, Within, Room, within-more, times}
+use Rattle.answers.proofs.Whole.Factors.{equal, power-of-product}
+use Rattle.answers.proofs.Whole.Within.{near, full, Within, Room, within-more, times}
 
 -- what is asked of P / R: from 2^-24 to 2^64 - 2^39
 pub record Base (P R : ℕ) : Type 0 where

@@ -1,0 +1,7 @@
+-- `every_answer` meets its contract: it is the theorem. Assumes nothing.
+use Rattle.answers.proofs.EveryAnswer.{claims}
+use Rattle.answers.proofs.every_answer.Statement.{statement}
+use Rattle.answers.proofs.every_answer.Tie as tie
+
+pub every-answer-spec : {M : Type 1} → statement M
+every-answer-spec = tie.close (tie.spec (λ c. claims _ _))
