@@ -1,7 +1,7 @@
 -- What is claimed of the answer for every pair of patterns: when it is a NaN, its sign, and for whole exponents the bound of demand 3.
 use Prim.Native.Nat.{ℕ, _+_, _-_, _*_, _^_, _<_}
 use mathlib.Core.Path.{_≡_}
-use mathlib.Core.Bool.{Bool, true, false, not, _&&_, _||_}
+use mathlib.Core.Bool.{Bool, false, not, _&&_, _||_}
 use lib.Dec.{T}
 use lib.IntN.{pos}
 use lib.Ieee.{Float, fin, binary32, ofBits, toBits, isNan, lt, le}

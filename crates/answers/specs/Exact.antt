@@ -1,6 +1,6 @@
 -- The mission, demand 3: "E being the exact (1+x)^y", a fraction of whole numbers, for a finite x above -1 and a whole y.
 use Prim.Native.Nat.{ℕ, _+_, _-_, _*_, _/_, _^_}
-use mathlib.Core.Bool.{Bool, true, false}
+use mathlib.Core.Bool.{true, false}
 use lib.Ieee.{Float, nan, inf, fin, up, down}
 
 -- top / bottom

@@ -6,5 +6,4 @@ ghost use Rattle.answers.specs.Claims.{Claims};
 // theorem, and whoever calls this has it for their pair.
 pub fn every_answer(nx: u32, ny: u32)
     ensures { λ r. ⌜ Claims nx ny ⌝ }
-{
-}
+{}

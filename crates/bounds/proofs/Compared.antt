@@ -1,26 +1,24 @@
 -- The order of two finite f64s in units of 2^-1074: `le` is that of the differences (`le-units`, `le-of-units`). And values from one positive number of the
 -- scale of 1 to another (`Positive`), through a product and a sum, to the exponent's field of the pattern (`positive-bits`). Assumes nothing.
-use mathlib.Core.Path.{_≡_, refl, sym, ap, ap₂, _∙_, subst}
+use mathlib.Core.Path.{_≡_, sym, ap, ap₂, _∙_, subst}
 use mathlib.Core.Logic.{_⊎_, inl, inr}
 use mathlib.Core.Bool.{Bool, true, false, not, _&&_, _||_}
-use Prim.Native.Nat.{ℕ, zero, suc, _+_, _-_, _*_, _/_, _^_, _≤_, _<_}
-use native.Mathlib.Nat.{le-refl, le-trans, le-of-eq, le-antisymm, lt-of-le-of-lt, lt-of-lt-of-le, le-of-mul-le-mul-right, mul-comm, mul-assoc, mul-right-comm, mul-le-mul, mul-le-mul-right, mul-pos, add-mul, add-zero, zero-add, le-add-right, mul-mul-mul-comm, mul-lt-mul-of-pos-right, not-le-of-lt, div-div-eq-div-mul, div-mul-le-self, div-lt-iff-lt-mul}
+use Prim.Native.Nat.{ℕ, _+_, _-_, _*_, _/_, _^_, _≤_, _<_}
+use native.Mathlib.Nat.{le-trans, le-of-eq, le-antisymm, lt-of-le-of-lt, lt-of-lt-of-le, le-of-mul-le-mul-right, mul-comm, mul-right-comm, mul-le-mul, mul-le-mul-right, mul-pos, add-mul, add-zero, zero-add, le-add-right, mul-mul-mul-comm, mul-lt-mul-of-pos-right, not-le-of-lt, div-div-eq-div-mul, div-mul-le-self, div-lt-iff-lt-mul}
 use native.Mathlib.Omega.{arith}
 use lib.Dec.{T, leb, ltb, eqb, leb→le, nleb→lt, ltb→lt, nltb→le, eqb→eq, lit≤, lit<}
-use lib.IntN.{ℤ}
 use lib.Pow.{pow-pos}
 use lib.Ieee.{Float, nan, inf, fin, binary64, up, down, size, le, below, level, fits, toBits}
 use lib.Ieee.Fits.{and-i, and-l, and-r, eq→eqb, down-pos}
-use lib.Ieee.Scale.{finite}
 use Rattle.floats.specs.Operations.{_⊕_, _⊗_}
 use Rattle.floats.proofs.Laws.Place.{size-exact, place-below, place-above}
 use Rattle.floats.proofs.Laws.Order.{bits-of-clear, under-zero}
 use Rattle.floats.proofs.Laws.Sums.{above, under, above-times, under-times, le-says, SizeAtMost}
 use Rattle.floats.proofs.Laws.Units.{exponent, in-units}
-use Rattle.bounds.proofs.Values.{perOne, perOne-pos, plus, less, mag, mag-of, one-side, Number, cross, cross-under, joined, Along}
+use Rattle.bounds.proofs.Values.{perOne, plus, less, mag, mag-of, one-side, Number, cross, cross-under, joined}
 use Rattle.bounds.proofs.Operation.{limit, add-near, mul-near}
 use Rattle.bounds.proofs.Sums.{sum-small}
-use Rattle.bounds.proofs.Scales.{S, S-pos, unit, one-is, Scale, Bound, within, tested, Through, unit-left, ok, both-sizes, one-part, small-limit, productK, mul-limit, mul-bound, add-bound}
+use Rattle.bounds.proofs.Scales.{S, S-pos, unit, one-is, Bound, within, tested, unit-left, ok, both-sizes, one-part, small-limit, productK, mul-limit, mul-bound, add-bound}
 use Rattle.bounds.proofs.Distances.{parts, Apart, apartK, add-apart, not-below}
 
 -- ---- the order

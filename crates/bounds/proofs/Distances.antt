@@ -1,7 +1,7 @@
 -- How far two values can be from each other, on a scale: a sum is as far from one of its terms as the other term is large, and a rounding
 -- (`add-apart`); `ddFmla` is as far from c as the product is large, and its roundings (`fmla-apart`). From a distance to a known value a size follows from
 -- below (`not-less`, `not-below`). Assumes nothing.
-use mathlib.Core.Path.{_≡_, sym, ap, _∙_, subst}
+use mathlib.Core.Path.{_≡_}
 use mathlib.Core.Logic.{_⊎_, inl, inr}
 use Prim.Native.Nat.{ℕ, _+_, _*_, _/_, _^_, _≤_, _<_}
 use native.Mathlib.Nat.{le-trans, le-of-eq, mul-le-mul-right, mul-right-comm, add-mul, add-le-add, le-refl}
@@ -9,11 +9,11 @@ use native.Mathlib.Omega.{arith}
 use lib.Dec.{T, leb, leb→le}
 use lib.Ieee.{Float}
 use Rattle.floats.specs.Operations.{_⊕_}
-use Rattle.double_double.specs.DoubleDouble.{fromExactMult, fromFullExactAdd, fullAddF64, ddFmla}
+use Rattle.double_double.specs.DoubleDouble.{fromFullExactAdd, fullAddF64, ddFmla}
 use Rattle.bounds.proofs.Values.{plus, less, mag, one-side}
-use Rattle.bounds.proofs.Operation.{limit, Close, add-near}
+use Rattle.bounds.proofs.Operation.{limit, add-near}
 use Rattle.bounds.proofs.Sums.{sum-small}
-use Rattle.bounds.proofs.Scales.{Scale, Bound, both-sizes, one-part, small-limit, ok, sumK, productK, dekkerK, fullK, Through, add-bound, dekker-bounds, full-bounds, fmlaLoK, fmlaOk, fmla-parts}
+use Rattle.bounds.proofs.Scales.{Bound, both-sizes, one-part, small-limit, ok, sumK, productK, Through, add-bound, dekker-bounds, full-bounds, fmlaLoK, fmlaOk, fmla-parts}
 
 pub record Apart (μ K : ℕ) (x y : Float) : Type 0 where
   pub over : plus x + less y ≤ less x + plus y + K * μ

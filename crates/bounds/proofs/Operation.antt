@@ -5,20 +5,19 @@ use mathlib.Core.Path.{_≡_, refl, sym, ap, ap₂, _∙_, subst}
 use mathlib.Core.Logic.{_⊎_, inl, inr}
 use mathlib.Core.Bool.{Bool, true, false, not}
 use Prim.Native.Nat.{ℕ, zero, suc, _+_, _-_, _*_, _^_, _≤_, _<_}
-use native.Mathlib.Nat.{le-trans, le-of-eq, lt-of-lt-of-le, lt-of-le-of-lt, le-of-mul-le-mul-right, mul-one, one-mul, mul-assoc, mul-right-comm, mul-comm, add-mul, mul-le-mul-right, mul-pos, add-le-add}
+use native.Mathlib.Nat.{le-trans, le-of-eq, lt-of-lt-of-le, lt-of-le-of-lt, le-of-mul-le-mul-right, mul-one, mul-le-mul-right, mul-pos}
 use native.Mathlib.Omega.{arith}
 use lib.Dec.{T, ltb, ltb→lt, nltb→le, lit<, lit≤}
-use lib.Pow.{pow-pos, pow-mono}
+use lib.Pow.{pow-pos}
 use lib.Ieee.{Float, nan, inf, fin, binary64, unlike, round, neg, sub}
 use lib.Ieee.Exact.{HasValue, round-exact}
 use lib.Ieee.Fits.{round-fits}
-use lib.Ieee.Scale.{overflow, grid}
 use Rattle.floats.specs.Operations.{_⊕_, _⊖_, _⊗_}
 use Rattle.floats.proofs.Laws.Overflow.{halfway, round-stays}
 use Rattle.floats.proofs.Laws.Rounding.{Near, round-holds, relative-error, rounding-error}
 use Rattle.floats.proofs.Laws.Units.{exponent, in-units, fits-signed}
 use Rattle.floats.proofs.Laws.Sums.{above, under, Signed, Rounded}
-use Rattle.bounds.proofs.Values.{perOne, perOne-pos, plus, less, mag, mag-of, one-side, Number, Units, by-value, sum-in-units, neg-plus, neg-less, neg-number, Along, Product, product-in-units}
+use Rattle.bounds.proofs.Values.{perOne, perOne-pos, plus, less, mag, mag-of, one-side, Number, Units, by-value, sum-in-units, neg-plus, neg-less, neg-number, Along, product-in-units}
 
 -- as far as this nothing overflows: 2^1000, in units
 unfoldable pub limit : ℕ

@@ -1,19 +1,18 @@
 -- `split` and Dekker's product, from above, where nothing overflows. `split` leaves hi within 2^-25 of a, relatively, and lo at most 2^-25 of a
 -- (`split-near`). The lo of `fromExactMult` is at most 2^-22 of the product and four units of 2^-1074 (`dekker-near`). That it is the error exactly is not
 -- claimed here. Assumes nothing.
-use mathlib.Core.Path.{_≡_, refl, sym, ap, _∙_, subst}
+use mathlib.Core.Path.{_≡_, refl, sym, ap, subst}
 use mathlib.Core.Logic.{_⊎_, inl, inr}
 use mathlib.Core.Bool.{Bool, true, false, not}
 use Prim.Native.Nat.{ℕ, zero, suc, _+_, _-_, _*_, _/_, _^_, _≤_, _<_}
-use native.Mathlib.Nat.{le-trans, le-of-eq, le-of-mul-le-mul-right, mul-le-mul, mul-comm, mul-assoc, mul-le-mul-right, add-le-add, one-mul}
+use native.Mathlib.Nat.{le-trans, le-of-eq, le-of-mul-le-mul-right, mul-le-mul, mul-comm, mul-le-mul-right, add-le-add, one-mul}
 use native.Mathlib.Omega.{arith}
 use lib.Dec.{T, leb, leb→le, nleb→lt, lit≤}
-use lib.IntN.{pos}
-use lib.Ieee.{Float, fin, binary64, unlike, fits}
+use lib.Ieee.{Float, unlike, fits}
 use Rattle.floats.specs.Operations.{_⊕_, _⊖_, _⊗_}
 use Rattle.double_double.specs.DoubleDouble.{splitter, split, fromExactMult}
 use Rattle.bounds.proofs.Values.{perOne, perOne-pos, plus, less, mag, one-side, Number, Along}
-use Rattle.bounds.proofs.Operation.{limit, Close, Small, Multiplied, add-near, sub-near, mul-near}
+use Rattle.bounds.proofs.Operation.{limit, Small, Multiplied, add-near, sub-near, mul-near}
 use Rattle.bounds.proofs.Sums.{close-mag, sum-small, difference-small, add-mag}
 
 -- ---- `split`

@@ -3,9 +3,9 @@
 -- literals for K a whole evaluation is bounded by computing. A scale may be relative too, as 2^53 × μ = |z|: a product of a value on the scale of 1 and one on
 -- the scale of z is on the scale of z. Assumes nothing.
 use mathlib.Core.Path.{_≡_, refl, sym, ap, ap₂, _∙_, subst}
-use mathlib.Core.Bool.{Bool, true, false, _&&_}
+use mathlib.Core.Bool.{Bool, true, _&&_}
 use Prim.Native.Nat.{ℕ, zero, suc, _+_, _-_, _*_, _/_, _^_, _≤_, _<_}
-use native.Mathlib.Nat.{le-refl, le-trans, le-of-eq, le-of-mul-le-mul-right, mul-le-mul, mul-comm, mul-assoc, mul-right-comm, mul-left-comm, mul-mul-mul-comm, mul-le-mul-right, mul-le-mul-left, add-le-add, add-mul, mul-pos, one-mul, div-add-mod', mod-lt, le-of-lt}
+use native.Mathlib.Nat.{le-refl, le-trans, le-of-eq, le-of-mul-le-mul-right, mul-le-mul, mul-comm, mul-assoc, mul-right-comm, mul-mul-mul-comm, mul-le-mul-right, mul-le-mul-left, add-le-add, add-mul, div-add-mod', mod-lt, le-of-lt}
 use native.Mathlib.Omega.{arith}
 use lib.Dec.{T, leb, leb→le, lit≤, lit<}
 use lib.Pow.{pow-pos}
@@ -15,10 +15,10 @@ use lib.Ieee.Scale.{finite}
 use Rattle.floats.specs.Operations.{_⊕_, _⊖_, _⊗_}
 use Rattle.double_double.specs.declared.DoubleDouble.{DoubleDouble}
 use Rattle.double_double.specs.DoubleDouble.{fromExactAdd, fromFullExactAdd, fromExactMult, quickMult, quickMultF64, fullAddF64, ddFmla}
-use Rattle.bounds.proofs.Values.{perOne, perOne-pos, plus, less, mag, Number, neg-plus, neg-less, neg-number}
+use Rattle.bounds.proofs.Values.{perOne, plus, less, mag, Number, neg-plus, neg-less, neg-number}
 use Rattle.bounds.proofs.Operation.{limit, Small, add-near, sub-near, mul-near}
 use Rattle.bounds.proofs.Sums.{sum-small, add-mag, close-mag, fast-sum, full-sum}
-use Rattle.bounds.proofs.Products.{Dekker, dekker-near}
+use Rattle.bounds.proofs.Products.{dekker-near}
 
 -- the scale of 1
 unfoldable pub S : ℕ

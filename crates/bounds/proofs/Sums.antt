@@ -4,7 +4,6 @@
 use mathlib.Core.Path.{_≡_}
 use mathlib.Core.Logic.{_⊎_, inl, inr}
 use Prim.Native.Nat.{ℕ, _+_, _*_, _/_, _^_, _≤_}
-use native.Mathlib.Nat.{le-trans}
 use native.Mathlib.Omega.{arith}
 use lib.Ieee.{Float}
 use Rattle.floats.specs.Operations.{_⊕_, _⊖_}

@@ -1,18 +1,17 @@
 -- A finite f64 as a difference of two whole numbers, in units of 2^-1074: what it has above zero, `plus`, less what it has below, `less`. One of the two
 -- is 0. What an operation gives, in these units: a sum is the exact sum, rounded (`sum-in-units`), and a product the exact product
 -- (`product-in-units`). Assumes nothing.
-use mathlib.Core.Path.{_≡_, refl, sym, ap, ap₂, _∙_, subst}
+use mathlib.Core.Path.{_≡_, refl, sym, ap, ap₂, _∙_}
 use mathlib.Core.Logic.{_⊎_, inl, inr}
-use mathlib.Core.Bool.{Bool, true, false, not}
-use Prim.Native.Nat.{ℕ, zero, suc, _+_, _-_, _*_, _^_, _≤_, _<_}
-use native.Mathlib.Nat.{le-trans, le-of-eq, le-of-mul-le-mul-right, eq-of-mul-eq-mul-right, mul-comm, mul-assoc, mul-right-comm, mul-mul-mul-comm, add-mul, zero-mul, mul-zero, mul-pos, add-zero, zero-add}
+use mathlib.Core.Bool.{Bool, true, false}
+use Prim.Native.Nat.{ℕ, _+_, _-_, _*_, _^_, _≤_, _<_}
+use native.Mathlib.Nat.{le-of-mul-le-mul-right, eq-of-mul-eq-mul-right, mul-comm, mul-assoc, mul-right-comm, mul-mul-mul-comm, add-mul, zero-mul, mul-zero, mul-pos, add-zero, zero-add}
 use native.Mathlib.Omega.{arith}
 use lib.Dec.{T}
-use lib.IntN.{ℤ}
 use lib.Pow.{pow-pos}
 use lib.Ieee.{Float, nan, inf, fin, binary64, up, down, unlike, round, neg, add, mul, fits}
 use lib.Ieee.Exact.{HasValue}
-use lib.Ieee.Fits.{add-fits, mul-fits, neg-fits, down-pos}
+use lib.Ieee.Fits.{neg-fits, down-pos}
 use lib.Ieee.Scale.{finite, round-same}
 use Rattle.floats.specs.Operations.{_⊕_, _⊗_}
 use Rattle.floats.proofs.Laws.Units.{exponent, in-units}

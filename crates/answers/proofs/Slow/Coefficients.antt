@@ -1,7 +1,6 @@
 -- How large the entries of the tables and the coefficients are, each by one test that is computed over its table. On the scale of 1 a number K stands for
 -- K / 2^53. Assumes nothing.
 use Prim.Native.Nat.{ℕ, _+_, _*_, _^_, _<_}
-use lib.Dec.{T}
 use lib.Ieee.{fits, ofBits}
 use Rattle.tables.specs.Tables.{entry, pairEntry, fromBitPair, log2p1CompoundfLog2Inv, compoundfExp2U, log2p1PolyP, log2p1Log2Poly, exp2PolyQ2}
 use Rattle.tables.proofs.Entries.{carried}

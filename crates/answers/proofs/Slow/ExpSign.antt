@@ -1,17 +1,16 @@
 -- The end of the slow path: where the exponent's rest is a half at most and its second part 2^-8 at most, hi + lo is a number near 1, the power of two that is
 -- added to the exponent's field, 1000 at most, reaches neither a NaN's pattern nor the sign, and the answer has a clear sign (`away-clear`). Assumes
 -- nothing.
-use mathlib.Core.Path.{_≡_, refl, sym, ap, _∙_, subst}
+use mathlib.Core.Path.{_≡_, sym, ap, _∙_, subst}
 use mathlib.Core.Bool.{Bool, true, false, cond}
 use Prim.Native.Nat.{ℕ, suc, _+_, _-_, _*_, _%_, _^_, _≤_, _<_, min}
 use native.Mathlib.Nat.{sub-le, add-mul-mod-self-right}
 use native.Mathlib.Omega.{arith}
 use lib.Dec.{T}
 use lib.IntN.{ℤ, pos, negsuc}
-use lib.Ieee.{Float, fin, binary64, lt, toBits, ofBits}
+use lib.Ieee.{Float, binary64, lt, toBits}
 use Rattle.floats.specs.Operations.{_⊕_, _⊖_, f64}
-use Rattle.floats.specs.Narrowing.{narrowed}
-use Rattle.floats.proofs.Laws.Magnitude.{Finite, below-infinity}
+use Rattle.floats.proofs.Laws.Magnitude.{below-infinity}
 use Rattle.floats.proofs.Laws.Order.{clear}
 use Rattle.double_double.specs.declared.DoubleDouble.{DoubleDouble}
 use Rattle.double_double.specs.DoubleDouble.{fromExactAdd}
@@ -21,10 +20,10 @@ use Rattle.compound.specs.Fast.{powerIndex}
 use Rattle.compound.specs.Slow.{clampedIndex, clampedK, testPattern, isLost, oneTowards, roundedToOdd, scaledToF32, exp2Product, isSmall, exp2Away}
 use Rattle.compound.proofs.Index.{clamped-k-within}
 use Rattle.bounds.proofs.Scales.{S, Bound, at, fast-bounds}
-use Rattle.bounds.proofs.Compared.{Positive, positive-at, positive-add, positive-bits}
-use Rattle.answers.proofs.Signs.Plain.{Plain, plain-narrowed}
+use Rattle.bounds.proofs.Compared.{positive-at, positive-add, positive-bits}
+use Rattle.answers.proofs.Signs.Plain.{plain-narrowed}
 use Rattle.answers.proofs.Slow.ExpSize.{Product, product-near-one}
-use Rattle.answers.proofs.Slow.PowerSlot.{Slot, power-slot}
+use Rattle.answers.proofs.Slow.PowerSlot.{power-slot}
 
 -- ---- the pattern, with k added to the exponent's field
 abbrev Middle : ℕ → Type 0

@@ -4,10 +4,10 @@
 use Prim.Native.Nat.{ℕ, _+_, _-_, _*_, _^_, _<_}
 use lib.Dec.{lit<}
 use lib.Ieee.{Float}
-use Rattle.floats.specs.Operations.{_⊕_, _⊖_}
+use Rattle.floats.specs.Operations.{_⊖_}
 use Rattle.double_double.specs.declared.DoubleDouble.{DoubleDouble}
 use Rattle.double_double.specs.DoubleDouble.{fromExactAdd, fromExactMult, quickMult}
-use Rattle.tables.specs.Tables.{entry, pairEntry, compoundfExp2T, compoundfExp2U}
+use Rattle.tables.specs.Tables.{entry, compoundfExp2T}
 use Rattle.compound.specs.Slow.{q2, nextExp2, highestExp2, compoundfExp2Poly2, exp2Product}
 use Rattle.bounds.proofs.Scales.{S, unit, Bound, Bounds, at, unit-left, add-bound, mul-bound, fast-bounds, quick-bounds, fmla-bound}
 use Rattle.bounds.proofs.Compared.{Positive, positive-at, positive-bound, positive-add, positive-mul}

@@ -2,20 +2,19 @@
 -- within 1/64 of 1 and a little more, by a test that is computed over the table; and so is what `ddFmla` gives for r × t - 1 (`inverse-slot`). Assumes
 -- nothing.
 use mathlib.Core.Path.{_≡_, refl, sym, ap, _∙_, subst}
-use mathlib.Core.Bool.{Bool, true, false, _&&_}
+use mathlib.Core.Bool.{Bool, true, _&&_}
 use Prim.Native.Nat.{ℕ, _+_, _-_, _*_, _/_, _^_, _≤_, _<_}
-use native.Mathlib.Nat.{le-refl, le-trans, le-of-eq, le-of-lt, mul-pos, mul-assoc, add-mul, le-antisymm}
+use native.Mathlib.Nat.{le-trans, le-of-eq, le-of-lt, mul-pos, le-antisymm}
 use native.Mathlib.Omega.{arith}
-use lib.Dec.{T, leb, leb→le, lit<}
+use lib.Dec.{T, leb, lit<}
 use lib.Ieee.{Float, binary64, fits, toBits, ofBits}
-use lib.Ieee.Fits.{and-l, and-r}
 use Rattle.floats.specs.Operations.{_⊕_, _⊗_, f64}
 use Rattle.double_double.specs.DoubleDouble.{ddFmla}
 use Rattle.tables.specs.Tables.{entry, log2p1CompoundfInv}
 use Rattle.tables.proofs.Entries.{carried}
 use Rattle.compound.specs.Special.{minusOne}
 use Rattle.compound.specs.Fast.{inverseIndex, HasInverse}
-use Rattle.bounds.proofs.Values.{plus, less, Number}
+use Rattle.bounds.proofs.Values.{plus, less}
 use Rattle.bounds.proofs.Operation.{limit, Close, Small, add-near}
 use Rattle.bounds.proofs.Sums.{sum-small}
 use Rattle.bounds.proofs.Scales.{S, S-pos, unit, unit-left, Bound, at, ok, productK, both-sizes, one-part, small-limit, tested, fmla-small}

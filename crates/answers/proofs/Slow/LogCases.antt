@@ -1,19 +1,17 @@
 -- The two logarithms of 1 + x are on one scale, for every finite f32 x above -1, or the fast one is 0 (`both-logs`). The cases are those of `Logs`, and x below
 -- 2^-53 in size, which the accurate logarithm keeps as a second part while the fast one has 1 or the f64 before it. Assumes nothing.
-use mathlib.Core.Path.{_≡_, refl, sym, ap, ap₂, _∙_, subst}
+use mathlib.Core.Path.{_≡_, sym, ap, ap₂, _∙_, subst}
 use mathlib.Core.Logic.{_⊎_, inl, inr}
-use mathlib.Core.Bool.{Bool, true, false, not, cond}
-use Prim.Native.Nat.{ℕ, zero, suc, _+_, _-_, _*_, _/_, _%_, _^_, _≤_, _<_, zero-le}
-use native.Mathlib.Nat.{le-refl, le-trans, le-of-eq, lt-of-lt-of-le, lt-trans, mul-le-mul, mul-le-mul-right, le-of-mul-le-mul-right, mul-pos, eq-zero-or-pos, zero-mul}
+use Prim.Native.Nat.{ℕ, _+_, _-_, _*_, _/_, _%_, _^_, _≤_, _<_, zero-le}
+use native.Mathlib.Nat.{le-refl, le-trans, le-of-eq, lt-trans, mul-le-mul, mul-le-mul-right, le-of-mul-le-mul-right, mul-pos, eq-zero-or-pos, zero-mul}
 use native.Mathlib.Omega.{arith}
-use lib.Dec.{T, lit≤, lit<}
+use lib.Dec.{lit≤, lit<}
 use lib.IntN.{ℤ, pos, negℤ}
 use lib.Pow.{pow-pos}
-use lib.Ieee.{Float, fin, binary32, binary64, minus, fits, toBits, ofBits, ofInt, mul, lt, le}
+use lib.Ieee.{Float, binary64, minus, toBits, ofInt}
 use lib.Ieee.Bits.{ofBits-toBits}
 use lib.Ieee.Fits.{add-fits}
-use lib.Ieee.Scale.{finite}
-use Rattle.floats.specs.Operations.{_⊕_, _⊖_, _⊗_, f64}
+use Rattle.floats.specs.Operations.{_⊕_, _⊗_, f64}
 use Rattle.floats.proofs.Laws.Powers.{mul-one}
 use Rattle.double_double.specs.declared.DoubleDouble.{DoubleDouble}
 use Rattle.double_double.specs.DoubleDouble.{fromExactAdd, ddFmla}
@@ -26,10 +24,10 @@ use Rattle.compound.specs.Slow.{onePlus, timesInverse, log2Reduced, log2Poly2, 
 use Rattle.compound.proofs.Field.{biased-near}
 use Rattle.compound.proofs.Index.{reduced-index}
 use Rattle.compound.proofs.Scaled.{times-scale}
-use Rattle.bounds.proofs.Values.{perOne, perOne-pos, plus, less, mag, Number}
-use Rattle.bounds.proofs.Operation.{limit, mul-near, nothing}
-use Rattle.bounds.proofs.Sums.{add-mag, sum-small}
-use Rattle.bounds.proofs.Scales.{S, S-pos, one-is, unit, unit-left, unit-right, Scale, Bound, Bounds, at, onto, add-bound, mul-bound, mul-limit, fast-bounds, tested}
+use Rattle.bounds.proofs.Values.{perOne, perOne-pos, mag, Number}
+use Rattle.bounds.proofs.Operation.{mul-near, nothing}
+use Rattle.bounds.proofs.Sums.{add-mag}
+use Rattle.bounds.proofs.Scales.{S, S-pos, unit, unit-left, Scale, Bound, Bounds, at, add-bound, mul-bound, mul-limit, fast-bounds}
 use Rattle.bounds.proofs.Compared.{Positive, positive-bound}
 use Rattle.bounds.proofs.Exactly.{Off, fmla-minus-one}
 use Rattle.answers.proofs.Slow.Coefficients.{inverse-log-hi, inverse-log-lo}

@@ -3,19 +3,18 @@
 -- Assumes nothing.
 use mathlib.Core.Path.{_≡_, refl, subst}
 use mathlib.Core.Bool.{Bool, true, _&&_}
-use Prim.Native.Nat.{ℕ, _+_, _*_, _^_, _≤_, _<_}
-use native.Mathlib.Nat.{le-trans}
+use Prim.Native.Nat.{ℕ, _+_, _*_, _^_, _<_}
 use native.Mathlib.Omega.{arith}
-use lib.Dec.{T, leb, lit<}
+use lib.Dec.{T, lit<}
 use lib.Ieee.{Float}
-use Rattle.floats.specs.Operations.{_⊕_, _⊗_}
+use Rattle.floats.specs.Operations.{_⊗_}
 use Rattle.double_double.specs.declared.DoubleDouble.{DoubleDouble}
 use Rattle.double_double.specs.DoubleDouble.{quickMultF64, ddFmla}
 use Rattle.tables.specs.Tables.{entry, log2p1PolyP, log2p1Log2Poly}
 use Rattle.compound.specs.Fast.{log2p1Polyeval1}
 use Rattle.compound.specs.Slow.{p, droppingH, nextLog2, higher, log2Poly2, sumOfLogs}
-use Rattle.bounds.proofs.Scales.{S, unit, unit-left, unit-right, Scale, Through, Bound, Bounds, at, ok, sumK, productK, fastK, quickLoK, quickOk, add-bound, mul-bound, fast-bounds, quick-bounds, quick-f64-bounds, fmla-bound}
-use Rattle.bounds.proofs.Distances.{Apart, apart-through, fmla-apart}
+use Rattle.bounds.proofs.Scales.{S, unit, unit-left, Scale, Bound, Bounds, at, ok, sumK, productK, fastK, quickLoK, quickOk, add-bound, mul-bound, fast-bounds, quick-bounds, quick-f64-bounds, fmla-bound}
+use Rattle.bounds.proofs.Distances.{apart-through, fmla-apart}
 use Rattle.bounds.proofs.Compared.{Positive, positive-at, positive-bound, positive-near}
 use Rattle.answers.proofs.Slow.Coefficients.{fast-first, fast-second, fast-size, log-size, log-second}
 

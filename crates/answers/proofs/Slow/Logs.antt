@@ -1,22 +1,22 @@
 -- The two logarithms beside each other: wherever the fast one is l, the accurate one is at most 72 × |l| in its hi and 2^-18 × |l| in its lo (`Logs`). Three cases:
 -- 1 + x is a power of two away from 1 or more (`far-whole`); it is nearer than that, but its inverse is not 1 (`far-part`); and its inverse is 1
 -- (`near`), where z is 1 + x less 1 and both logarithms are on the scale of z. Assumes nothing.
-use mathlib.Core.Path.{_≡_, refl, sym, ap, ap₂, _∙_, subst}
-use Prim.Native.Nat.{ℕ, zero, suc, _+_, _-_, _*_, _/_, _^_, _≤_, _<_}
-use native.Mathlib.Nat.{le-refl, le-trans, le-of-eq, lt-of-lt-of-le, mul-assoc, mul-comm, mul-right-comm, mul-le-mul-right, mul-le-mul, mul-pos, zero-mul, one-mul, le-add-right, le-of-mul-le-mul-right}
+use mathlib.Core.Path.{_≡_, refl, sym, ap, _∙_, subst}
+use Prim.Native.Nat.{ℕ, zero, _+_, _-_, _*_, _^_, _≤_, _<_}
+use native.Mathlib.Nat.{le-refl, le-trans, le-of-eq, mul-assoc, mul-right-comm, mul-le-mul-right, mul-le-mul, mul-pos, zero-mul, one-mul, le-add-right, le-of-mul-le-mul-right}
 use native.Mathlib.Omega.{arith}
-use lib.Dec.{T, lit≤, lit<}
+use lib.Dec.{lit≤}
 use lib.Pow.{pow-pos}
 use lib.Ieee.{Float}
 use Rattle.floats.specs.Operations.{_⊕_, _⊗_}
 use Rattle.double_double.specs.declared.DoubleDouble.{DoubleDouble}
 use Rattle.compound.specs.Fast.{log2p1Polyeval1}
 use Rattle.compound.specs.Slow.{log2Poly2, sumOfLogs}
-use Rattle.bounds.proofs.Values.{perOne, perOne-pos, plus, less, mag, Number}
-use Rattle.bounds.proofs.Operation.{limit, mul-near}
-use Rattle.bounds.proofs.Scales.{S, S-pos, one-is, unit, unit-left, unit-right, Scale, Bound, Bounds, at, onto, ok, add-bound, mul-bound, mul-limit}
+use Rattle.bounds.proofs.Values.{perOne, plus, less, mag, Number}
+use Rattle.bounds.proofs.Operation.{mul-near}
+use Rattle.bounds.proofs.Scales.{S, S-pos, one-is, unit, unit-right, Scale, Bound, Bounds, at, onto, add-bound, mul-bound, mul-limit}
 use Rattle.bounds.proofs.Distances.{apart-at, apart-through, add-apart, add-apart-right, not-less}
-use Rattle.bounds.proofs.Compared.{Positive, positive-bound}
+use Rattle.bounds.proofs.Compared.{positive-bound}
 use Rattle.answers.proofs.Slow.LogSize.{factor, fast-is, fast-factor, poly-size, logs-size}
 
 pub record Logs (l : Float) (L : DoubleDouble) : Type 0 where

@@ -6,25 +6,23 @@ use mathlib.Core.Bool.{true, false}
 use Prim.Native.Nat.{ℕ, zero, suc, _+_, _-_, _*_, _^_, _≤_, _<_}
 use native.Mathlib.Nat.{le-trans, le-of-eq, one-mul}
 use native.Mathlib.Omega.{arith}
-use lib.Dec.{T, lit≤, lit<}
-use lib.IntN.{ℤ, pos, negsuc, negℤ}
-use lib.Ieee.{Float, fin, binary64, fits, toBits, ofBits, ofInt, add, sub, mul, neg, le}
+use lib.Dec.{lit≤, lit<}
+use lib.IntN.{pos, negsuc, negℤ}
+use lib.Ieee.{Float, fin, binary64, fits, toBits, ofBits, ofInt, add, sub, mul, neg}
 use lib.Ieee.Fits.{add-fits}
-use lib.Ieee.Scale.{finite}
 use Rattle.floats.specs.Operations.{_⊕_, _⊗_, f64}
 use Rattle.floats.proofs.Laws.Powers.{mul-one}
 use Rattle.floats.proofs.Laws.Sums.{add-mono}
 use Rattle.double_double.specs.declared.DoubleDouble.{DoubleDouble}
 use Rattle.double_double.specs.DoubleDouble.{split, fromExactMult, fromExactAdd, fromFullExactAdd, fullAddF64, ddFmla}
 use Rattle.tables.specs.Tables.{entry, pairEntry, fromBitPair, log2p1CompoundfInv, log2p1CompoundfLog2Inv, log2p1Scale, log2p1PolyP}
-use Rattle.tables.proofs.Entries.{scale-rule}
 use Rattle.compound.specs.Special.{one, minusOne}
 use Rattle.compound.specs.Scaling.{scaled, biased, exponentOf}
 use Rattle.compound.specs.Fast.{inverseIndex, log2p1Polyeval1, compoundfLog2p1Fast}
 use Rattle.compound.specs.Slow.{onePlus, timesInverse, log2Reduced, log2Poly2, sumOfLogs, compoundfLog2p1Accurate}
 use Rattle.compound.proofs.Index.{pattern-between}
 use Rattle.bounds.proofs.Values.{plus, less, mag, Number}
-use Rattle.bounds.proofs.Scales.{S, unit, unit-left, Scale, Bound, Bounds, at, mul-bound, fast-bounds, tested}
+use Rattle.bounds.proofs.Scales.{S, unit, unit-left, Scale, Bound, at, mul-bound, fast-bounds, tested}
 use Rattle.bounds.proofs.Compared.{le-of-units, positive-bound}
 use Rattle.answers.proofs.Slow.Logs.{Logs, near, nought}
 use Rattle.answers.proofs.Slow.LogCases.{Nil}

@@ -2,28 +2,27 @@
 -- sum is 2^-24 at least. Assumes nothing.
 use mathlib.Core.Path.{_≡_, refl, sym, ap, _∙_, subst}
 use mathlib.Core.Logic.{_⊎_, inl, inr}
-use mathlib.Core.Bool.{Bool, true, false}
+use mathlib.Core.Bool.{true, false}
 use Prim.Native.Nat.{ℕ, _+_, _-_, _*_, _^_, _≤_, _<_}
-use native.Mathlib.Nat.{le-refl, le-trans, le-of-eq, le-of-lt, lt-of-lt-of-le, le-of-mul-le-mul-right, mul-assoc, mul-comm, mul-right-comm, mul-le-mul, mul-le-mul-right, le-add-right, zero-add, add-le-add, not-le-of-lt, one-mul}
+use native.Mathlib.Nat.{le-refl, le-trans, le-of-eq, le-of-lt, le-of-mul-le-mul-right, mul-assoc, mul-right-comm, mul-le-mul, mul-le-mul-right, le-add-right, zero-add, add-le-add, not-le-of-lt, one-mul}
 use native.Mathlib.Omega.{arith}
 use lib.Dec.{T, lit≤, lit<}
-use lib.IntN.{ℤ, pos}
-use lib.Ieee.{Float, nan, inf, fin, binary32, binary64, up, down, fits, toBits, ofBits, lt, le, eq}
+use lib.IntN.{ℤ}
+use lib.Ieee.{Float, nan, inf, fin, binary32, binary64, fits, toBits, ofBits, lt, le, eq}
 use lib.Ieee.Fits.{fits-widens}
 use lib.Ieee.Scale.{finite}
 use Rattle.floats.specs.Operations.{_⊕_, _⊗_}
 use Rattle.floats.proofs.Laws.Order.{or-l, bits-of-clear}
-use Rattle.floats.proofs.Laws.Place.{place, units-above}
+use Rattle.floats.proofs.Laws.Place.{units-above}
 use Rattle.floats.proofs.Laws.Sums.{SizeAtMost}
 use Rattle.floats.proofs.Laws.Units.{exponent, fits-top, bits-of-sign}
-use Rattle.double_double.specs.DoubleDouble.{fromExactAdd}
 use Rattle.tables.specs.Tables.{entry, log2p1Scale}
 use Rattle.tables.proofs.Entries.{carried}
 use Rattle.compound.specs.Special.{one, minusOne}
 use Rattle.bounds.proofs.Values.{perOne, perOne-pos, plus, less, mag, one-side, Number}
-use Rattle.bounds.proofs.Operation.{limit, Close, add-near, mul-near}
-use Rattle.bounds.proofs.Sums.{sum-small, fast-sum}
-use Rattle.bounds.proofs.Scales.{S, S-pos, one-is, unit, unit-left, Bound, within, tested, mul-limit}
+use Rattle.bounds.proofs.Operation.{limit, add-near, mul-near}
+use Rattle.bounds.proofs.Sums.{sum-small}
+use Rattle.bounds.proofs.Scales.{S, one-is, unit, unit-left, Bound, within, tested, mul-limit}
 use Rattle.bounds.proofs.Compared.{Positive, tested-positive, le-units, size-in-units}
 
 -- ---- 1 and -1, and a finite f32

@@ -1,25 +1,23 @@
 -- 1 + x as the accurate logarithm has it, where x is not lost in the sum: hi is the f64 sum, and lo is small beside it (`Parted`); where 1 + x is near 1, lo is at most
 -- 2 × 2^-53 (`near-low`). Assumes nothing.
-use mathlib.Core.Path.{_≡_, refl, sym, ap, _∙_, subst}
+use mathlib.Core.Path.{_≡_, refl, sym, subst}
 use mathlib.Core.Logic.{_⊎_, inl, inr}
-use mathlib.Core.Bool.{Bool, true, false, not}
 use Prim.Native.Nat.{ℕ, _+_, _*_, _^_, _≤_, _<_}
-use native.Mathlib.Nat.{le-refl, le-trans, le-of-eq, add-comm, mul-le-mul, add-le-add}
+use native.Mathlib.Nat.{le-refl, le-trans, le-of-eq, add-comm, add-le-add}
 use native.Mathlib.Omega.{arith}
 use lib.Dec.{T, lit≤}
-use lib.Ieee.{Float, binary32, binary64, fits, lt, le}
-use lib.Ieee.Scale.{finite}
-use Rattle.floats.specs.Operations.{_⊕_, _⊖_, _⊗_}
+use lib.Ieee.{Float, binary64, le}
+use Rattle.floats.specs.Operations.{_⊕_, _⊖_}
 use Rattle.double_double.specs.declared.DoubleDouble.{DoubleDouble}
 use Rattle.double_double.specs.DoubleDouble.{fromExactAdd}
-use Rattle.compound.specs.Special.{one, minusOne}
+use Rattle.compound.specs.Special.{one}
 use Rattle.bounds.proofs.Values.{perOne, plus, less, mag, one-side, Number}
 use Rattle.bounds.proofs.Operation.{limit, Close, Small, add-near}
 use Rattle.bounds.proofs.Sums.{sides, sum-small, fast-sum}
 use Rattle.bounds.proofs.Scales.{S, S-pos, one-is, Scale, Bound, at, sub-small-bound}
 use Rattle.bounds.proofs.Compared.{Positive, le-units}
-use Rattle.bounds.proofs.Exactly.{add-turned, Off, minus-one}
-use Rattle.answers.proofs.Slow.LowPart.{one-is-1, one-mag, f32-number, above-minus-one, sum-limit, sum-least}
+use Rattle.bounds.proofs.Exactly.{add-turned, minus-one}
+use Rattle.answers.proofs.Slow.LowPart.{one-is-1, one-mag, sum-limit, sum-least}
 
 -- what is asked of x, in units
 pub record Above (x : Float) : Type 0 where

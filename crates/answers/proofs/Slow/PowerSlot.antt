@@ -1,22 +1,20 @@
 -- The index of the power: for |r| up to 65/128 it is inside the table, and the power's exponent (i - 16)/32 is within 1/64 of r, and a little more
 -- (`power-slot`). Assumes nothing.
-use mathlib.Core.Path.{_≡_, refl, sym, ap, _∙_, subst}
-use mathlib.Core.Logic.{_⊎_, inl, inr}
+use mathlib.Core.Path.{_≡_, sym, ap, _∙_, subst}
 use mathlib.Core.Bool.{Bool, true, false, not}
 use Prim.Native.Nat.{ℕ, _+_, _-_, _*_, _/_, _^_, _≤_, _<_}
-use native.Mathlib.Nat.{le-trans, le-of-eq, lt-of-le-of-lt, lt-of-lt-of-le, le-div-iff-mul-le, div-lt-iff-lt-mul, mul-right-comm, mul-comm, mul-assoc, mul-pos, mul-le-mul-right, add-mul, zero-add, le-antisymm, le-of-lt}
+use native.Mathlib.Nat.{le-trans, le-of-eq, lt-of-le-of-lt, lt-of-lt-of-le, le-div-iff-mul-le, div-lt-iff-lt-mul, mul-right-comm, mul-assoc, mul-pos, add-mul, zero-add, le-antisymm, le-of-lt}
 use native.Mathlib.Omega.{arith}
-use lib.Dec.{T, ltb, ltb→lt, nltb→le, lit<, lit≤}
-use lib.IntN.{ℤ}
-use lib.Ieee.{Float, nan, inf, fin, binary64, up, down, fits, toBits, ofBits}
+use lib.Dec.{T, ltb, ltb→lt, nltb→le, lit<}
+use lib.Ieee.{Float, nan, inf, fin, binary64, up, down, fits, ofBits}
 use lib.Ieee.Bits.{ofBits-fits}
 use lib.Ieee.Exact.{HasValue}
 use Rattle.floats.specs.Operations.{_⊕_, _⊖_, f64}
-use Rattle.floats.proofs.Laws.Sums.{above, under}
+use Rattle.floats.proofs.Laws.Sums.{under}
 use Rattle.tables.specs.Tables.{entry, compoundfExp2T}
 use Rattle.tables.proofs.Entries.{exp2t-rule}
 use Rattle.compound.specs.Fast.{powerIndex}
-use Rattle.bounds.proofs.Values.{perOne, plus, less, mag, Number, Units, by-value}
+use Rattle.bounds.proofs.Values.{perOne, plus, less, Number, Units, by-value}
 use Rattle.bounds.proofs.Operation.{limit, Close, Small, add-near}
 use Rattle.bounds.proofs.Sums.{sum-small}
 use Rattle.bounds.proofs.Scales.{S, S-pos, one-is, unit, Bound, at, both-sizes, one-part, small-limit, sub-small-bound}

@@ -3,20 +3,20 @@
 -- (`inverse-one`, `log-far`). Assumes nothing.
 use mathlib.Core.Path.{_≡_, refl, sym, ap, _∙_, subst}
 use mathlib.Core.Logic.{_⊎_, inl, inr}
-use mathlib.Core.Bool.{Bool, true, false, not, cond, _||_, _&&_}
-use Prim.Native.Nat.{ℕ, zero, suc, _+_, _-_, _*_, _/_, _^_, _≤_, _<_}
-use native.Mathlib.Nat.{le-trans, le-of-eq, lt-of-le-of-lt, add-zero, zero-add, mul-right-comm, mul-one, le-antisymm}
+use mathlib.Core.Bool.{Bool, true, false, not, cond, _||_}
+use Prim.Native.Nat.{ℕ, zero, suc, _+_, _-_, _*_, _^_, _≤_, _<_}
+use native.Mathlib.Nat.{le-trans, lt-of-le-of-lt, mul-right-comm, mul-one}
 use native.Mathlib.Omega.{arith}
-use lib.Dec.{T, leb, ltb, eqb, leb→le, nleb→lt, eqb→eq, lit≤, lit<}
-use lib.IntN.{ℤ, pos, negsuc, negℤ}
-use lib.Ieee.{Float, nan, inf, fin, binary64, up, down, minus, round, fits, ofBits, ofInt, le}
+use lib.Dec.{T, leb, eqb, leb→le, nleb→lt, eqb→eq, lit≤, lit<}
+use lib.IntN.{pos, negsuc, negℤ}
+use lib.Ieee.{Float, nan, inf, fin, binary64, up, down, minus, round, fits, ofBits, ofInt}
 use lib.Ieee.Back.{round-whole}
 use lib.Ieee.Bits.{ofBits-fits}
 use lib.Ieee.Exact.{HasValue}
 use lib.Ieee.Fits.{round-fits}
 use lib.Ieee.Scale.{finite}
 use Rattle.floats.specs.Operations.{f64}
-use Rattle.floats.proofs.Laws.Magnitude.{Finite, below-infinity}
+use Rattle.floats.proofs.Laws.Magnitude.{below-infinity}
 use Rattle.floats.proofs.Laws.Order.{values-of-patterns}
 use Rattle.tables.specs.Tables.{entry, pairEntry, fromBitPair, log2p1CompoundfInv, log2p1CompoundfLog2Inv}
 use Rattle.tables.proofs.Entries.{carried}
@@ -25,7 +25,7 @@ use Rattle.compound.specs.Scaling.{scaled, exponentOf}
 use Rattle.compound.proofs.Index.{reduced-pattern}
 use Rattle.bounds.proofs.Values.{perOne, plus, less, mag, Number, Units, by-value}
 use Rattle.bounds.proofs.Operation.{units-mag}
-use Rattle.bounds.proofs.Scales.{S, Bound, tested}
+use Rattle.bounds.proofs.Scales.{S, tested}
 use Rattle.bounds.proofs.Compared.{Positive, tested-positive, le-units}
 
 -- ---- a value by its pattern

@@ -2,13 +2,13 @@
 -- accurate one times y has a second part below 2^-8, and the end of the path is as `ExpSign` has it. Assumes nothing.
 use mathlib.Core.Path.{_≡_, refl, sym, ap, ap₂, _∙_, subst}
 use mathlib.Core.Logic.{_⊎_, inl, inr}
-use mathlib.Core.Bool.{Bool, true, false, not, cond, _&&_, true≢false}
-use Prim.Native.Nat.{ℕ, zero, suc, _+_, _-_, _*_, _/_, _%_, _^_, _≤_, _<_, zero-le}
+use mathlib.Core.Bool.{Bool, true, false, cond, true≢false}
+use Prim.Native.Nat.{ℕ, zero, _+_, _-_, _*_, _/_, _%_, _^_, _≤_, _<_, zero-le}
 use native.Mathlib.Nat.{le-refl, le-trans, le-of-eq, le-of-lt, lt-of-lt-of-le, le-of-mul-le-mul-right, mul-assoc, mul-comm, mul-le-mul, mul-le-mul-right, mul-pos, zero-mul, one-mul, zero-add, add-zero, add-le-add, not-le-of-lt}
 use native.Mathlib.Omega.{arith}
 use lib.Dec.{T, leb, lit≤, lit<}
-use lib.IntN.{ℤ, pos, negsuc}
-use lib.Ieee.{Float, nan, inf, fin, Format, binary32, binary64, size, fits, toBits, ofBits, add, lt, le, eq}
+use lib.IntN.{pos, negsuc}
+use lib.Ieee.{Float, nan, inf, fin, binary32, binary64, size, fits, toBits, ofBits, add, lt, le, eq}
 use lib.Ieee.Fits.{and-r, add-fits, sub-fits, mul-fits}
 use lib.Ieee.Scale.{finite}
 use Rattle.floats.specs.Operations.{_⊕_, _⊖_, _⊗_, f64}
@@ -25,20 +25,19 @@ use Rattle.compound.specs.Special as Special
 use Rattle.compound.specs.Special.{one, minusOne}
 use Rattle.compound.specs.Fast.{compoundfLog2p1Fast}
 use Rattle.compound.specs.Slow.{onePlus, compoundfLog2p1Accurate, isNearOne, exp2Away, exp2Accurate, compoundfAccurate}
-use Rattle.compound.specs.Route.{Tabled}
 use Rattle.compound.proofs.Index.{between-finite}
 use Rattle.compound.proofs.Scaled.{sum-clear, one-plus-bits}
 use Rattle.bounds.proofs.Values.{perOne, perOne-pos, plus, less, mag, mag-of, one-side, Number}
-use Rattle.bounds.proofs.Operation.{limit, mul-near, nothing}
+use Rattle.bounds.proofs.Operation.{mul-near, nothing}
 use Rattle.bounds.proofs.Sums.{sides}
 use Rattle.bounds.proofs.Scales.{S, S-pos, one-is, unit, unit-left, Scale, Through, Bound, Bounds, at, onto, mul-bound, mul-limit, quick-f64-bounds, productK, quickF64LoK, tested}
-use Rattle.bounds.proofs.Compared.{Positive, positive-add, positive-at, le-units, le-of-units, le-other}
+use Rattle.bounds.proofs.Compared.{Positive, positive-add, le-units, le-of-units, le-other}
 use Rattle.bounds.proofs.Exactly.{add-turned}
 use Rattle.answers.proofs.Slow.ExpSign.{away-clear}
 use Rattle.answers.proofs.Slow.LogCases.{Nil, parted-logs}
 use Rattle.answers.proofs.Slow.Logs.{Logs}
 use Rattle.answers.proofs.Slow.Lost.{lost-logs}
-use Rattle.answers.proofs.Slow.LowPart.{one-is-1, one-mag, f32-number, above-minus-one, least-units}
+use Rattle.answers.proofs.Slow.LowPart.{one-is-1, f32-number, above-minus-one, least-units}
 use Rattle.answers.proofs.Slow.OnePlusParts.{Above, Parted, parted-low, parted-high}
 use Rattle.answers.proofs.Signs.Plain.{plain-narrowed}
 use Rattle.answers.proofs.Signs.TableValues.{SlowClear}
@@ -200,7 +199,6 @@ module _ (l y : Float) (L : DoubleDouble) (logs : Logs l L) (Y : Number y) (y-mo
 
           together : (s : ℕ) → 151 * (s * s) + s * s ≡ 152 * (s * s)
           together s = omega arith
-
 
   pub exponent-size : Bounds (152 * S) (productK (72 * 2 ^ 53) (2 ^ 53)) (quickF64LoK (72 * 2 ^ 53) (2 ^ 35) (2 ^ 53)) (quickMultF64 L y)
   exponent-size = quick-f64-bounds through (logs .accurate) y-own tt
