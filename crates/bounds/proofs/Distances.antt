@@ -1,14 +1,15 @@
 -- How far two values can be from each other, on a scale: a sum is as far from one of its terms as the other term is large, and a rounding
 -- (`add-apart`); `ddFmla` is as far from c as the product is large, and its roundings (`fmla-apart`). From a distance to a known value a size follows from
 -- below (`not-less`, `not-below`). Assumes nothing.
-use mathlib.Core.Path.{_≡_}
+use mathlib.Core.Path.{_≡_, subst}
 use mathlib.Core.Logic.{_⊎_, inl, inr}
 use Prim.Native.Nat.{ℕ, _+_, _*_, _/_, _^_, _≤_, _<_}
-use native.Mathlib.Nat.{le-trans, le-of-eq, mul-le-mul-right, mul-right-comm, add-mul, add-le-add, le-refl}
+use native.Mathlib.Nat.{le-trans, le-of-eq, mul-le-mul-right, mul-right-comm, add-comm, add-mul, add-le-add, le-refl}
 use native.Mathlib.Omega.{arith}
 use lib.Dec.{T, leb, leb→le}
-use lib.Ieee.{Float}
+use lib.Ieee.{Float, binary64}
 use Rattle.floats.specs.Operations.{_⊕_}
+use Rattle.floats.proofs.Laws.Sums.{add-turned}
 use Rattle.double_double.specs.DoubleDouble.{fromFullExactAdd, fullAddF64, ddFmla}
 use Rattle.bounds.proofs.Values.{plus, less, mag, one-side}
 use Rattle.bounds.proofs.Operation.{limit, add-near}
@@ -74,25 +75,8 @@ add-apart {μ} {K} {L} {x} {y} p q t =
 -- and off y by x
 pub add-apart-right : {μ K L : ℕ} {x y : Float} → Bound μ K x → Bound μ L y → T (ok (K + L)) → Apart μ (K + ((K + L) / 2 ^ 53 + 1)) (x ⊕ y) y
 add-apart-right {μ} {K} {L} {x} {y} p q t =
-    let d = (K + L) * μ in
-    let c = add-near d (p .number) (q .number) (sum-small x y d (both-sizes p q)) (one-part d limit (small-limit (K + L) μ t (p .scale .bounded)) .0) in
-    let E = ((K + L) / 2 ^ 53 + 1) * μ in
-    let z = x ⊕ y in
-    let g = past (plus z + (less x + less y)) (less z + (plus x + plus y)) d E (parts (K + L) μ) (c .most) in
-    let h = past (less z + (plus x + plus y)) (plus z + (less x + less y)) d E (parts (K + L) μ) (c .least) in
-    record {
-      over = above (plus y) (less y) (plus x) (less x) (plus z) (less z) (K * μ) E _ (add-mul K ((K + L) / 2 ^ 53 + 1) μ) (p .size) g;
-      under = below (plus y) (less y) (plus x) (less x) (plus z) (less z) (K * μ) E _ (add-mul K ((K + L) / 2 ^ 53 + 1) μ) (p .size) h;
-    }
-  where
-    past : (a b d E : ℕ) → d ≤ E * 2 ^ 53 → a * 2 ^ 53 ≤ b * 2 ^ 53 + d → a ≤ b + E
-    past a b d E e h = omega arith
-
-    above : (p n q m r l Y E k : ℕ) → k ≡ Y + E → q + m ≤ Y → r + (m + n) ≤ l + (q + p) + E → r + n ≤ l + p + k
-    above p n q m r l Y E k e s h = omega arith
-
-    below : (p n q m r l Y E k : ℕ) → k ≡ Y + E → q + m ≤ Y → l + (q + p) ≤ r + (m + n) + E → p + l ≤ n + r + k
-    below p n q m r l Y E k e s h = omega arith
+    subst (λ (z : Float). Apart μ (K + ((K + L) / 2 ^ 53 + 1)) z y) (add-turned binary64 y x)
+    (subst (λ (k : ℕ). Apart μ (K + (k / 2 ^ 53 + 1)) (y ⊕ x) y) (add-comm L K) (add-apart q p (subst (λ (k : ℕ). T (ok k)) (add-comm K L) t)))
 
 -- ---- `ddFmla`
 abbrev pub fmlaApartK : ℕ → ℕ → ℕ → ℕ

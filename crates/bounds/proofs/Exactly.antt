@@ -1,16 +1,16 @@
--- Operations that lose nothing. Addition is commutative (`add-turned`). A difference of whole numbers of 2^-53, of fewer than 2^53 in size, is exact
+-- Operations that lose nothing. A difference of whole numbers of 2^-53, of fewer than 2^53 in size, is exact
 -- (`counted`): so is u - 1 for a u from 1/2 to 3/2, as a plain difference (`minus-one`) and by `ddFmla` (`fmla-minus-one`), whose product with 1 is exact
 -- (`one-times`, `dekker-one`) and whose full add of an exact sum leaves no error (`full-exact`). Assumes nothing.
 use mathlib.Core.Path.{_≡_, refl, sym, ap, ap₂, _∙_, subst}
 use mathlib.Core.Logic.{_⊎_, inl, inr}
-use mathlib.Core.Bool.{Bool, true, false, not, cond}
+use mathlib.Core.Bool.{Bool, true, false, not}
 use Prim.Native.Nat.{ℕ, zero, suc, _+_, _-_, _*_, _^_, _≤_, _<_}
-use native.Mathlib.Nat.{le-refl, le-trans, le-of-eq, lt-of-lt-of-le, lt-irrefl, le-of-mul-le-mul-right, mul-comm, mul-assoc, mul-le-mul-right, mul-pos, add-le-add, add-mul, zero-mul, add-zero, zero-add, not-le-of-lt, zero-lt-suc}
+use native.Mathlib.Nat.{le-refl, le-trans, le-of-eq, lt-of-lt-of-le, lt-irrefl, le-of-mul-le-mul-right, mul-comm, mul-assoc, mul-le-mul-right, mul-pos, add-le-add, add-comm, add-mul, zero-mul, add-zero, zero-add, not-le-of-lt, zero-lt-suc}
 use native.Mathlib.Omega.{arith}
-use lib.Dec.{T, leb, ltb, leb→le, nleb→lt, ltb→lt, nltb→le, lit≤, lit<}
+use lib.Dec.{T, leb, leb→le, nleb→lt, lit≤, lit<}
 use lib.IntN.{pos}
 use lib.Pow.{pow-add, pow-pos, pow-mono, shl-lt}
-use lib.Ieee.{Float, nan, inf, fin, Format, binary64, up, down, round, neg, sum, add, sub, mul, fits}
+use lib.Ieee.{Float, nan, inf, fin, binary64, round, neg, add, sub, mul, fits}
 use lib.Ieee.Exact.{round-exact}
 use lib.Ieee.Fits.{round-fits}
 use lib.Ieee.Scale.{round-same}
@@ -25,47 +25,6 @@ use Rattle.bounds.proofs.Operation.{limit, round-held, Same, add-exact,
 use Rattle.bounds.proofs.Products.{direction, split-near}
 use Rattle.bounds.proofs.Scales.{S, S-pos}
 use Rattle.bounds.proofs.Compared.{Positive, positive-bound}
-
--- ---- addition is commutative
-swap : (a b : ℕ) → a + b ≡ b + a
-swap a b = omega arith
-
--- a - b and -b + a
-opposite : (f : Format) (a b c : ℕ) (u : Bool) → (T u → a < b) → (T (not u) → b ≤ a) → (v : Bool) → (T v → b < a) → (T (not v) → a ≤ b)
-    → cond u (round f true (b - a) c) (round f false (a - b) c) ≡ cond v (round f false (a - b) c) (round f u (b - a) c)
-opposite f a b c true l g true m h = absurd (no (l tt) (m tt))
-  where
-    no : a < b → b < a → ⊥
-    no p q = omega (arith, p, q)
-opposite f a b c true l g false m h = refl
-opposite f a b c false l g true m h = refl
-opposite f a b c false l g false m h = ap (λ (k : ℕ). round f false k c) (equal (g tt) (h tt))
-  where
-    equal : b ≤ a → a ≤ b → a - b ≡ b - a
-    equal p q = omega (arith, p, q)
-
-sum-turned : (f : Format) (s : Bool) (a : ℕ) (t : Bool) (b c : ℕ) → sum f s a t b c ≡ sum f t b s a c
-unfolding sum
-sum-turned f false a false b c = ap (λ (k : ℕ). round f false k c) (swap a b)
-sum-turned f true a true b c = ap (λ (k : ℕ). round f true k c) (swap a b)
-sum-turned f false a true b c = opposite f a b c (ltb a b) (ltb→lt a b) (nltb→le a b) (ltb b a) (ltb→lt b a) (nltb→le b a)
-sum-turned f true a false b c = sym (opposite f b a c (ltb b a) (ltb→lt b a) (nltb→le b a) (ltb a b) (ltb→lt a b) (nltb→le a b))
-
-pub add-turned : (f : Format) (x y : Float) → add f x y ≡ add f y x
-unfolding add
-add-turned f nan nan = refl
-add-turned f nan (inf t) = refl
-add-turned f nan (fin t n d) = refl
-add-turned f (inf s) nan = refl
-add-turned f (inf false) (inf false) = refl
-add-turned f (inf false) (inf true) = refl
-add-turned f (inf true) (inf false) = refl
-add-turned f (inf true) (inf true) = refl
-add-turned f (inf s) (fin t n d) = refl
-add-turned f (fin s m e) nan = refl
-add-turned f (fin s m e) (inf t) = refl
-add-turned f (fin s m e) (fin t n d) =
-    sum-turned f s (m * up e * down d) t (n * up d * down e) (down e * down d) ∙ ap (λ (c : ℕ). sum f t (n * up d * down e) s (m * up e * down d) c) (mul-comm (down e) (down d))
 
 -- ---- 1, -1 and 0
 abbrev one : Float
@@ -329,8 +288,8 @@ difference-in-units x y p q =
 turned-difference : (x y : Float) {v w : Float} → Number x → Number y → Same v x → Same w y → Number (x ⊖ y) → Opposite (x ⊖ y) (w ⊖ v)
 turned-difference x y {v} {w} p q a b n =
     let R : Rounded binary64 (less x + plus y) (plus x + less y) perOne (w ⊖ v) =
-    subst (λ (k : ℕ). Rounded binary64 k (plus x + less y) perOne (w ⊖ v)) (ap₂ _+_ (b .plus-same) (a .less-same) ∙ swap (plus y) (less x))
-    (subst (λ (k : ℕ). Rounded binary64 (plus w + less v) k perOne (w ⊖ v)) (ap₂ _+_ (b .less-same) (a .plus-same) ∙ swap (less y) (plus x)) (difference-in-units w v (b .number) (a .number))) in
+    subst (λ (k : ℕ). Rounded binary64 k (plus x + less y) perOne (w ⊖ v)) (ap₂ _+_ (b .plus-same) (a .less-same) ∙ add-comm (plus y) (less x))
+    (subst (λ (k : ℕ). Rounded binary64 (plus w + less v) k perOne (w ⊖ v)) (ap₂ _+_ (b .less-same) (a .plus-same) ∙ add-comm (less y) (plus x)) (difference-in-units w v (b .number) (a .number))) in
     rounded-opposite (difference-in-units x y p q) R n
 
 -- ---- Dekker's product of 1 and u: u, and no error
@@ -343,7 +302,7 @@ error-of-one u h r p q n same =
     let l = one-times (u ⊖ h) n in
     let t = turned-difference u h p q same (one-times h q) n in
     let t2 = add-exact (l .number) (t .number) naught-number
-    (ap₂ (λ (i j : ℕ). i + j + 0) (l .plus-same) (t .plus-is) ∙ ap (λ (i : ℕ). i + 0) (swap (plus (u ⊖ h)) (less (u ⊖ h))) ∙ sym (ap₂ (λ (i j : ℕ). i + j + 0) (l .less-same) (t .less-is))) in
+    (ap₂ (λ (i j : ℕ). i + j + 0) (l .plus-same) (t .plus-is) ∙ ap (λ (i : ℕ). i + 0) (add-comm (plus (u ⊖ h)) (less (u ⊖ h))) ∙ sym (ap₂ (λ (i j : ℕ). i + j + 0) (l .less-same) (t .less-is))) in
     naught-sum (naught-times (u ⊖ h) n) (naught-sum (naught-times h q) t2)
 
 record TimesOne (u : Float) (r : DoubleDouble) : Type 0 where
@@ -363,7 +322,7 @@ dekker-one u p l =
 
 -- ---- the full add of an exact sum has no error
 level-difference : {x y : Float} → Number x → Same y x → Same (x ⊖ y) naught
-level-difference {x} {y} p same = sub-exact p (same .number) naught-number (ap (λ (i : ℕ). i + 0) (ap (λ (i : ℕ). plus x + i) (same .less-same) ∙ swap (plus x) (less x) ∙ ap (λ (i : ℕ). less x + i) (sym (same .plus-same))))
+level-difference {x} {y} p same = sub-exact p (same .number) naught-number (ap (λ (i : ℕ). i + 0) (ap (λ (i : ℕ). plus x + i) (same .less-same) ∙ add-comm (plus x) (less x) ∙ ap (λ (i : ℕ). less x + i) (sym (same .plus-same))))
 
 full-exact : {a b : Float} → Number a → Number b → Number (a ⊕ b) → plus (a ⊕ b) + less a + less b ≡ less (a ⊕ b) + plus a + plus b → Same (fromFullExactAdd a b .lo) naught
 unfolding fromFullExactAdd

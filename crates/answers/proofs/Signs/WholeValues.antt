@@ -2,26 +2,26 @@
 -- factors of the power are on the same side of 1: from 1 up no product is 0, and up to 1 none is infinite. Assumes nothing.
 use mathlib.Core.Path.{_≡_, refl, sym, subst}
 use mathlib.Core.Logic.{_⊎_, inl, inr}
-use mathlib.Core.Bool.{Bool, true, false, not, cond}
-use Prim.Native.Nat.{ℕ, zero, suc, _-_, _*_, _/_, _%_, _+_, _≤_, _<_}
+use mathlib.Core.Bool.{Bool, true, false, cond}
+use Prim.Native.Nat.{ℕ, zero, suc, _-_, _*_, _/_, _%_, _≤_, _<_}
 use native.Mathlib.Nat.{mul-pos, mul-le-mul}
 use native.Mathlib.Omega.{arith}
 use borrow.Author.Tests.{ne-eqb}
-use lib.Dec.{T, eqb, leb, ltb, leb→le, nleb→lt, lit<}
+use lib.Dec.{T, eqb, leb, lit<}
 use lib.IntN.{ℤ}
-use lib.Ieee.{Float, nan, inf, fin, binary64, up, down, round, add, sum, mul, div, lt, le, fits, toUnsigned}
-use lib.Ieee.Bits.{is-true}
+use lib.Ieee.{Float, nan, inf, fin, binary64, up, down, add, mul, div, lt, le, fits, toUnsigned}
 use lib.Ieee.Fits.{down-pos}
-use lib.Ieee.Order.{le-of-values}
 use lib.Ieee.Positive.{above, above-of-le}
 use Rattle.floats.specs.Operations.{_⊕_, _⊗_, _⊘_}
 use Rattle.floats.specs.Narrowing.{narrowed}
 use Rattle.floats.specs.OnBits.{absolute}
 use Rattle.floats.proofs.Laws.Compare.{at-most}
-use Rattle.floats.proofs.Laws.Order.{clear, clear-both, round-clear, round-at-most, round-at-least}
+use Rattle.floats.proofs.Laws.Order.{le-either, clear, clear-both, round-clear, round-at-most, round-at-least}
+use Rattle.floats.proofs.Laws.Sums.{add-turned}
 use Rattle.compound.specs.Special as Special
 use Rattle.compound.specs.Special.{one, minusOne}
 use Rattle.compound.specs.Whole.{isWhole, isTiny, tiny, squarings, power, whole}
+use Rattle.compound.proofs.Scaled.{sum-clear}
 use Rattle.compound.proofs.Tiny.{tiny-is-one}
 use Rattle.answers.proofs.Signs.Plain.{Plain, plain-one, plain-narrowed, either}
 
@@ -103,30 +103,9 @@ module _ (P : Float → Type 0) (at-one : P one) (product : (x y : Float) → P 
   unfolding power
   of-power s n p = of-squarings 4 n s _ p (either P (eqb (n % 2) 1) s one p at-one)
 
--- a value with a clear sign is on one of the two sides
-one-of-both : (x : Float) → T (clear x) → T (le one x) ⊎ T (le x one)
-unfolding le
-one-of-both nan c = absurd c
-one-of-both (inf true) c = absurd c
-one-of-both (inf false) c = inl tt
-one-of-both (fin true m e) c = absurd c
-one-of-both (fin false m e) c = go (leb (down e) (m * up e)) (leb→le (down e) (m * up e)) (nleb→lt (down e) (m * up e))
-  where
-    x : Float
-    x = fin false m e
-
-    above-it : (D M : ℕ) → D ≤ M → 1 * D ≤ M * 1
-    above-it D M h = omega (arith, h)
-
-    below-it : (D M : ℕ) → M < D → M * 1 ≤ 1 * D
-    below-it D M h = omega (arith, h)
-
-    go : (b : Bool) → (T b → down e ≤ m * up e) → (T (not b) → m * up e < down e) → T (le one x) ⊎ T (le x one)
-    go true h k = inl (le-of-values one x 1 1 (m * up e) (down e) (lit< tt) (down-pos e) (refl, refl) (refl, refl) (above-it (down e) (m * up e) (h tt)))
-    go false h k = inr (le-of-values x one (m * up e) (down e) 1 1 (down-pos e) (lit< tt) (refl, refl) (refl, refl) (below-it (down e) (m * up e) (k tt)))
-
+-- a value with a clear sign is at least 1 or at most 1
 power-clear : (s : Float) (n : ℕ) → T (clear s) → T (clear (power s n))
-power-clear s n c = go (one-of-both s c)
+power-clear s n c = go (le-either one s tt c)
   where
     go : T (le one s) ⊎ T (le s one) → T (clear (power s n))
     go (inl h) = from-one-clear (power s n) (of-power (λ (x : Float). T (le one x)) (unfold le in tt) from-one-product s n h)
@@ -142,23 +121,17 @@ reciprocal-clear (fin true n d) c = absurd c
 reciprocal-clear (fin false n d) c = either (λ (x : Float). T (clear x)) (eqb n 0) (inf false) _ tt (round-clear binary64 (1 * 1 * down d) (n * up d * 1))
 
 -- ---- x + 1 for an x above -1
-difference-clear : (a b c : ℕ) → T (ltb a b) → T (clear (sum binary64 true a false b c))
-unfolding sum
-difference-clear a b c h =
-    subst (λ (u : Bool). T (clear (cond u (round binary64 false (b - a) c) (round binary64 (ltb b a) (a - b) c)))) (sym (is-true (ltb a b) h)) (round-clear binary64 (b - a) c)
-
-sum-clear : (x : Float) → T (lt minusOne x) → T (clear (x ⊕ one))
+one-more-clear : (x : Float) → T (lt minusOne x) → T (clear (x ⊕ one))
 unfolding lt add
-sum-clear nan h = absurd h
-sum-clear (inf true) h = absurd h
-sum-clear (inf false) h = tt
-sum-clear (fin false m e) h = unfold sum in round-clear binary64 (m * up e * 1 + 1 * 1 * down e) (down e * 1)
-sum-clear (fin true m e) h = difference-clear (m * up e * 1) (1 * 1 * down e) (down e * 1) h
+one-more-clear nan h = absurd h
+one-more-clear (inf true) h = absurd h
+one-more-clear (inf false) h = tt
+one-more-clear (fin s m e) h = subst (λ (y : Float). T (clear y)) (add-turned binary64 one (fin s m e)) (sum-clear binary64 s m e h)
 
 -- ---- the answers
 pub whole-plain : (x y : Float) → T (lt minusOne x) → isWhole x y ≡ true → Plain (whole x y)
 unfolding whole
-whole-plain x y h e = go (isTiny x) refl (power (x ⊕ one) (toUnsigned 32 (absolute y))) (power-clear (x ⊕ one) (toUnsigned 32 (absolute y)) (sum-clear x h))
+whole-plain x y h e = go (isTiny x) refl (power (x ⊕ one) (toUnsigned 32 (absolute y))) (power-clear (x ⊕ one) (toUnsigned 32 (absolute y)) (one-more-clear x h))
   where
     go : (b : Bool) → isTiny x ≡ b → (acc : Float) → T (clear acc) → Plain (cond b (tiny x y) (narrowed (cond (lt y Special.zero) (one ⊘ acc) acc)))
     go true k acc c = subst Plain (sym (tiny-is-one x y e k)) plain-one

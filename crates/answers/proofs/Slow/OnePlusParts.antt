@@ -8,6 +8,7 @@ use native.Mathlib.Omega.{arith}
 use lib.Dec.{T, lit≤}
 use lib.Ieee.{Float, binary64, le}
 use Rattle.floats.specs.Operations.{_⊕_, _⊖_}
+use Rattle.floats.proofs.Laws.Sums.{add-turned}
 use Rattle.double_double.specs.declared.DoubleDouble.{DoubleDouble}
 use Rattle.double_double.specs.DoubleDouble.{fromExactAdd}
 use Rattle.compound.specs.Special.{one}
@@ -16,7 +17,7 @@ use Rattle.bounds.proofs.Operation.{limit, Close, Small, add-near}
 use Rattle.bounds.proofs.Sums.{sides, sum-small, fast-sum}
 use Rattle.bounds.proofs.Scales.{S, S-pos, one-is, Scale, Bound, at, sub-small-bound}
 use Rattle.bounds.proofs.Compared.{Positive, le-units}
-use Rattle.bounds.proofs.Exactly.{add-turned, minus-one}
+use Rattle.bounds.proofs.Exactly.{minus-one}
 use Rattle.answers.proofs.Slow.LowPart.{one-is-1, one-mag, sum-limit, sum-least}
 
 -- what is asked of x, in units

@@ -16,7 +16,7 @@ use Rattle.floats.specs.Narrowing.{narrowed, nearestWhole}
 use Rattle.floats.specs.OnBits.{absolute}
 use Rattle.floats.proofs.Laws.Narrow.{narrowed-same}
 use Rattle.floats.proofs.Laws.Order.{clear, or-l}
-use Rattle.floats.proofs.Laws.Sums.{whole-distance}
+use Rattle.floats.proofs.Laws.Sums.{add-turned, whole-distance}
 use Rattle.floats.proofs.Laws.Place.{place}
 use Rattle.floats.proofs.Laws.Units.{exponent, fits-signed, bits-of-value}
 use Rattle.double_double.specs.declared.DoubleDouble.{DoubleDouble}
@@ -32,7 +32,6 @@ use Rattle.bounds.proofs.Operation.{mul-near, nothing}
 use Rattle.bounds.proofs.Sums.{sides}
 use Rattle.bounds.proofs.Scales.{S, S-pos, one-is, unit, unit-left, Scale, Through, Bound, Bounds, at, onto, mul-bound, mul-limit, quick-f64-bounds, productK, quickF64LoK, tested}
 use Rattle.bounds.proofs.Compared.{Positive, positive-add, le-units, le-of-units, le-other}
-use Rattle.bounds.proofs.Exactly.{add-turned}
 use Rattle.answers.proofs.Slow.ExpSign.{away-clear}
 use Rattle.answers.proofs.Slow.LogCases.{Nil, parted-logs}
 use Rattle.answers.proofs.Slow.Logs.{Logs}

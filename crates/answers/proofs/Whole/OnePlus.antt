@@ -3,7 +3,7 @@
 use mathlib.Core.Path.{_≡_, sym, ap, ap₂, _∙_, subst}
 use mathlib.Core.Bool.{Bool, true, false, not}
 use Prim.Native.Nat.{ℕ, suc, _+_, _-_, _*_, _^_, _≤_, _<_}
-use native.Mathlib.Nat.{le-trans, le-of-eq, lt-of-le-of-lt, lt-of-lt-of-le, mul-one, mul-le-mul-left, mul-lt-mul-of-pos-right}
+use native.Mathlib.Nat.{le-trans, le-of-eq, lt-of-le-of-lt, mul-one, mul-le-mul-left, mul-lt-mul-of-pos-right}
 use native.Mathlib.Omega.{arith}
 use lib.Dec.{T, leb, ltb, leb→le, nleb→lt, ltb→lt, lit≤, lit<}
 use lib.IntN.{ℤ, pos, negsuc}
@@ -17,6 +17,7 @@ use Rattle.floats.proofs.Laws.Compare.{at-most}
 use Rattle.floats.proofs.Laws.Units.{fits-digits}
 use Rattle.compound.specs.Special.{one, minusOne}
 use Rattle.compound.specs.Whole.{isTiny}
+use Rattle.compound.proofs.Scaled.{digits-below}
 use Rattle.compound.proofs.Tests.{first}
 use Rattle.answers.specs.Exact.{onePlus}
 use Rattle.answers.proofs.Whole.Factors.{Close}
@@ -60,11 +61,6 @@ largest m (pos k) g h = go (leb k 40) (leb→le k 40) (nleb→lt k 40)
     go : (b : Bool) → (T b → k ≤ 40) → (T (not b) → 40 < k) → m * 2 ^ k ≤ (2 ^ 64 - 2 ^ 40) * 1
     go true l r = largest-few m (2 ^ k) g (pow-mono (l tt))
     go false l r = largest-many m (2 ^ (k - 40)) (2 ^ k) (ap (λ (x : ℕ). 2 ^ x) (split k (r tt)) ∙ pow-add 2 40 (k - 40)) h
-
--- a / d is below 1, and its digits are 24 at most
-digits-below : (m : ℕ) (e : ℤ) → m < 2 ^ 24 → m * up e < down e → m * up e < 2 ^ 24
-digits-below m (pos k) g h = lt-of-lt-of-le h (lit≤ tt)
-digits-below m (negsuc k) g h = lt-of-le-of-lt (le-of-eq (mul-one m)) g
 
 more-base : (a d : ℕ) → 0 < d → a ≤ (2 ^ 64 - 2 ^ 40) * d → Base (d + a) d
 more-base a d D h = record { bottom = D; at-most = omega arith; at-least = omega arith }

@@ -1,10 +1,10 @@
--- The sum of two finite values is the exact sum, rounded once, whatever the signs (`add-rounded`). So it is a number (`add-number`), addition keeps
+-- The sum of two finite values is the exact sum, rounded once, whatever the signs (`add-rounded`). So it is a number (`add-number`), addition is commutative (`add-turned`) and keeps
 -- the order (`sums-mono`, `add-mono`), and what is left of an f64 over its nearest whole value is at most a half (`whole-distance`). Assumes nothing.
 use mathlib.Core.Path.{_≡_, refl, sym, ap, _∙_, subst}
 use mathlib.Core.Logic.{_⊎_, inl, inr}
 use mathlib.Core.Bool.{Bool, true, false, not, _&&_, _||_, cond, Bool·beq}
 use Prim.Native.Nat.{ℕ, zero, suc, _+_, _-_, _*_, _≤_, _<_}
-use native.Mathlib.Nat.{le-trans, mul-one, mul-right-comm, le-of-eq, mul-pos, mul-le-mul-right, zero-mul, not-le-of-lt, zero-lt-suc, add-mul, mul-comm, mul-mul-mul-comm}
+use native.Mathlib.Nat.{le-trans, mul-one, mul-right-comm, le-of-eq, mul-pos, mul-le-mul-right, zero-mul, not-le-of-lt, zero-lt-suc, add-comm, add-mul, mul-comm, mul-mul-mul-comm}
 use native.Mathlib.Omega.{arith}
 use lib.Dec.{T, ltb, eqb, ltb→lt, nltb→le, eqb→eq, eqb-refl, lit<}
 use lib.IntN.{ℤ, negsuc}
@@ -157,6 +157,45 @@ sums-mono f (fin s m e) (fin u n d) (fin v k i) (fin w l j) p q r t g h =
     (above u (n * up d)) (under u (n * up d)) (down d) (above w (l * up j)) (under w (l * up j)) (down j)
     (le-says s m e u n d g) (le-says v k i w l j h))
 
+-- ---- addition is commutative
+-- a - b and -b + a
+opposite : (f : Format) (a b c : ℕ) (u : Bool) → (T u → a < b) → (T (not u) → b ≤ a) → (v : Bool) → (T v → b < a) → (T (not v) → a ≤ b)
+    → cond u (round f true (b - a) c) (round f false (a - b) c) ≡ cond v (round f false (a - b) c) (round f u (b - a) c)
+opposite f a b c true l g true m h = absurd (both (l tt) (m tt))
+  where
+    both : a < b → b < a → ⊥
+    both p q = omega (arith, p, q)
+opposite f a b c true l g false m h = refl
+opposite f a b c false l g true m h = refl
+opposite f a b c false l g false m h = ap (λ (k : ℕ). round f false k c) (equal (g tt) (h tt))
+  where
+    equal : b ≤ a → a ≤ b → a - b ≡ b - a
+    equal p q = omega (arith, p, q)
+
+sum-turned : (f : Format) (s : Bool) (a : ℕ) (t : Bool) (b c : ℕ) → sum f s a t b c ≡ sum f t b s a c
+unfolding sum
+sum-turned f false a false b c = ap (λ (k : ℕ). round f false k c) (add-comm a b)
+sum-turned f true a true b c = ap (λ (k : ℕ). round f true k c) (add-comm a b)
+sum-turned f false a true b c = opposite f a b c (ltb a b) (ltb→lt a b) (nltb→le a b) (ltb b a) (ltb→lt b a) (nltb→le b a)
+sum-turned f true a false b c = sym (opposite f b a c (ltb b a) (ltb→lt b a) (nltb→le b a) (ltb a b) (ltb→lt a b) (nltb→le a b))
+
+pub add-turned : (f : Format) (x y : Float) → add f x y ≡ add f y x
+unfolding add
+add-turned f nan nan = refl
+add-turned f nan (inf t) = refl
+add-turned f nan (fin t n d) = refl
+add-turned f (inf s) nan = refl
+add-turned f (inf false) (inf false) = refl
+add-turned f (inf false) (inf true) = refl
+add-turned f (inf true) (inf false) = refl
+add-turned f (inf true) (inf true) = refl
+add-turned f (inf s) (fin t n d) = refl
+add-turned f (fin s m e) nan = refl
+add-turned f (fin s m e) (inf t) = refl
+add-turned f (fin s m e) (fin t n d) =
+    sum-turned f s (m * up e * down d) t (n * up d * down e) (down e * down d) ∙ ap (λ (c : ℕ). sum f t (n * up d * down e) s (m * up e * down d) c) (mul-comm (down e) (down d))
+
+-- ---- the order
 le-itself : (x : Float) → T (finite x) → T (le x x)
 unfolding le
 le-itself nan p = absurd p
