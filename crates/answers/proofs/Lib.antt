@@ -3,3 +3,4 @@ pub mod Slow
 pub mod Signs
 pub mod Whole
 pub mod EveryAnswer
+pub mod Examples

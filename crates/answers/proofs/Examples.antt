@@ -1,0 +1,40 @@
+-- What the claims rule out, at pairs that a reader can check by hand, all computed: the answer to an underflow is +0, and the bound on whole exponents holds
+-- neither of an answer that is always 1 nor of squarings in f32. Assumes nothing.
+use mathlib.Core.Path.{_≡_, refl}
+use mathlib.Core.Bool.{Bool, false}
+use Prim.Native.Nat.{ℕ, _-_, _*_, _^_}
+use lib.Ieee.{Float, binary32, ofBits, toBits, toUnsigned, round, add, mul, div, lt, le, eq, isNan}
+use Rattle.floats.specs.Narrowing.{narrowed, nearestF32}
+use Rattle.floats.specs.OnBits.{absolute, isInteger}
+use Rattle.compound.specs.Special.{one, isZero, isSpecial, isRule}
+use Rattle.compound.specs.Whole as Whole
+use Rattle.compound.specs.Whole.{isWhole, isTiny, squarings, power}
+use Rattle.compound.specs.Route.{compound}
+use Rattle.answers.specs.Claims.{answer}
+use Rattle.answers.specs.Exact as Exact
+use Rattle.answers.specs.Exact.{Fraction, onePlus, exact}
+
+abbrev f32 : ℕ → Float
+f32 n = ofBits binary32 n
+
+-- (1 + 2^63)^-16 is below every f32 but 0: the answer's pattern is that of +0
+pub underflow : toBits binary32 (answer (f32 0x5f000000) (f32 0xc1800000)) ≡ 0
+unfolding ofBits toBits toUnsigned add mul div lt le eq isNan narrowed absolute isInteger isZero isSpecial isRule isWhole isTiny squarings power Whole.whole compound
+underflow = refl
+
+-- whether r is at least the nearest f32 to E × (1 - 2^-47)
+abbrev atLeast : Fraction → Float → Bool
+atLeast E r = le (nearestF32 (E .top * (2 ^ 47 - 1)) (E .bottom * 2 ^ 47)) r
+
+-- (1 + 1/2)^2 is not 1
+pub not-always-one : atLeast (exact (f32 0x3f000000) (f32 0x40000000)) one ≡ false
+unfolding exact Exact.power onePlus ofBits nearestF32 round le
+not-always-one = refl
+
+-- (2 + 2^-23)^2: in f32, 1 + x is 2 and its square 4, and the bound asks for the f32 after 4
+abbrev square : Float → Float
+square x = mul binary32 (add binary32 one x) (add binary32 one x)
+
+pub not-in-f32 : atLeast (exact (f32 0x3f800001) (f32 0x40000000)) (square (f32 0x3f800001)) ≡ false
+unfolding exact Exact.power onePlus ofBits nearestF32 round le add mul
+not-in-f32 = refl
