@@ -1,26 +1,32 @@
--- What the claims rule out, at pairs that a reader can check by hand, all computed: the answer to an underflow is +0, and the bound on whole exponents holds
--- neither of an answer that is always 1 nor of squarings in f32. Assumes nothing.
+-- The claims at pairs that a reader can check by hand, all computed: x = -1 gives no NaN, an underflow gives +0, and the bound on whole exponents holds neither of
+-- an answer that is always 1 nor of squarings in f32. Assumes nothing.
 use mathlib.Core.Path.{_≡_, refl}
 use mathlib.Core.Bool.{Bool, false}
 use Prim.Native.Nat.{ℕ, _-_, _*_, _^_}
+use lib.Dec.{lit<}
 use lib.Ieee.{Float, binary32, ofBits, toBits, toUnsigned, round, add, mul, div, lt, le, eq, isNan}
 use Rattle.floats.specs.Narrowing.{narrowed, nearestF32}
 use Rattle.floats.specs.OnBits.{absolute, isInteger}
-use Rattle.compound.specs.Special.{one, isZero, isSpecial, isRule}
+use Rattle.compound.specs.Special.{one, isZero, isSpecial, isRule, fromMinusOneToZero, specialTable, firstThatFits, special}
 use Rattle.compound.specs.Whole as Whole
 use Rattle.compound.specs.Whole.{isWhole, isTiny, squarings, power}
 use Rattle.compound.specs.Route.{compound}
-use Rattle.answers.specs.Claims.{answer}
+use Rattle.answers.specs.Claims.{nanExactly, signClear}
 use Rattle.answers.specs.Exact as Exact
 use Rattle.answers.specs.Exact.{Fraction, onePlus, exact}
 
 abbrev f32 : ℕ → Float
 f32 n = ofBits binary32 n
 
--- (1 + 2^63)^-16 is below every f32 but 0: the answer's pattern is that of +0
-pub underflow : toBits binary32 (answer (f32 0x5f000000) (f32 0xc1800000)) ≡ 0
-unfolding ofBits toBits toUnsigned add mul div lt le eq isNan narrowed absolute isInteger isZero isSpecial isRule isWhole isTiny squarings power Whole.whole compound
-underflow = refl
+-- x = -1 is no NaN: 0^1 is +0
+pub at-minus-one : nanExactly (f32 0xbf800000) (f32 0x3f800000)
+unfolding nanExactly ofBits lt le eq isNan isZero isSpecial isRule fromMinusOneToZero specialTable firstThatFits special compound
+at-minus-one = refl
+
+-- (1 + 2^63)^-16 is below every f32 but 0: the answer is +0
+pub underflow : signClear (f32 0x5f000000) (f32 0xc1800000)
+unfolding signClear ofBits toBits toUnsigned add mul div lt le eq isNan narrowed absolute isInteger isZero isSpecial isRule isWhole isTiny squarings power Whole.whole compound
+underflow number = lit< tt
 
 -- whether r is at least the nearest f32 to E × (1 - 2^-47)
 abbrev atLeast : Fraction → Float → Bool
