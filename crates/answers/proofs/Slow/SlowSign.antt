@@ -2,13 +2,13 @@
 -- accurate one times y has a second part below 2^-8, and the end of the path is as `ExpSign` has it. Assumes nothing.
 use mathlib.Core.Path.{_≡_, refl, sym, ap, ap₂, _∙_, subst}
 use mathlib.Core.Logic.{_⊎_, inl, inr}
-use mathlib.Core.Bool.{Bool, true, false, cond, true≢false}
+use mathlib.Core.Bool.{Bool, true, false, not, cond, true≢false}
 use Prim.Native.Nat.{ℕ, zero, _+_, _-_, _*_, _/_, _%_, _^_, _≤_, _<_, zero-le}
 use native.Mathlib.Nat.{le-refl, le-trans, le-of-eq, le-of-lt, lt-of-lt-of-le, le-of-mul-le-mul-right, mul-assoc, mul-comm, mul-le-mul, mul-le-mul-right, mul-pos, zero-mul, one-mul, zero-add, add-zero, add-le-add, not-le-of-lt}
 use native.Mathlib.Omega.{arith}
 use lib.Dec.{T, leb, lit≤, lit<}
 use lib.IntN.{pos, negsuc}
-use lib.Ieee.{Float, nan, inf, fin, binary32, binary64, size, fits, toBits, ofBits, add, lt, le, eq}
+use lib.Ieee.{Float, nan, inf, fin, binary32, binary64, up, down, unlike, size, fits, toBits, ofBits, add, mul, lt, le, eq, isNan}
 use lib.Ieee.Fits.{and-r, add-fits, sub-fits, mul-fits}
 use lib.Ieee.Scale.{finite}
 use Rattle.floats.specs.Operations.{_⊕_, _⊖_, _⊗_, f64}
@@ -18,13 +18,14 @@ use Rattle.floats.proofs.Laws.Narrow.{narrowed-same}
 use Rattle.floats.proofs.Laws.Order.{clear, or-l}
 use Rattle.floats.proofs.Laws.Sums.{add-turned, whole-distance}
 use Rattle.floats.proofs.Laws.Place.{place}
-use Rattle.floats.proofs.Laws.Units.{exponent, fits-signed, bits-of-value}
+use Rattle.floats.proofs.Laws.Units.{exponent, fits-signed, bits-of-value, round-number}
 use Rattle.double_double.specs.declared.DoubleDouble.{DoubleDouble}
 use Rattle.double_double.specs.DoubleDouble.{fromExactAdd, quickMultF64}
 use Rattle.compound.specs.Special as Special
 use Rattle.compound.specs.Special.{one, minusOne}
 use Rattle.compound.specs.Fast.{compoundfLog2p1Fast}
 use Rattle.compound.specs.Slow.{onePlus, compoundfLog2p1Accurate, isNearOne, exp2Away, exp2Accurate, compoundfAccurate}
+use Rattle.compound.specs.Route.{Tabled}
 use Rattle.compound.proofs.Index.{between-finite}
 use Rattle.compound.proofs.Scaled.{sum-clear, one-plus-bits}
 use Rattle.bounds.proofs.Values.{perOne, perOne-pos, plus, less, mag, mag-of, one-side, Number}
@@ -98,7 +99,24 @@ module _ (x : Float) (f : T (fits binary32 x)) (p : T (finite x)) (h : T (lt min
       go true g false k = lost-logs x (num .0) (below-tiny k) (split true false g k)
       go false g c k = by-parts (fromExactAdd x one) (split false c g k) (unfold fromExactAdd in add-turned binary64 x one) (λ a. parted-high x a (le-of-units one x (one-is-1 .number) (num .0) (le-of-lt (le-other x one (num .0) (one-is-1 .number) g))))
 
--- ---- t = l × y, of a size below 150
+-- ---- t = l × y
+-- it is no NaN: the two tests of the route `edge` say of it what document 01 says
+product-number : (l y : Float) → T (finite l) → T (finite y) → T (not (isNan (l ⊗ y)))
+unfolding mul
+product-number nan y p q = absurd p
+product-number (inf s) y p q = absurd p
+product-number (fin s m e) nan p q = absurd q
+product-number (fin s m e) (inf t) p q = absurd q
+product-number (fin s m e) (fin t n d) p q = round-number binary64 (unlike s t) (m * up e * (n * up d)) (down e * down d)
+
+pub exponent-number : (x y : Float) → Tabled x y → T (not (isNan (compoundfLog2p1Fast x ⊗ y)))
+exponent-number x y t = product-number (compoundfLog2p1Fast x) y (go (both-logs x (t .x-fits) (t .x-finite) (t .x-above))) (t .y-finite)
+  where
+    go : Logs (compoundfLog2p1Fast x) (compoundfLog2p1Accurate x) ⊎ Nil (compoundfLog2p1Fast x) → T (finite (compoundfLog2p1Fast x))
+    go (inl logs) = logs .above .number .plain
+    go (inr nil) = nil .number .plain
+
+-- where the slow path is taken its size is 150 at most
 t-number : (t : Float) → T (fits binary64 t) → le t (fin true 75 (pos 1)) ≡ false → lt t (fin false 1 (pos 7)) ≡ true → Number t × (mag t ≤ 150 * perOne)
 unfolding le lt fits perOne
 t-number nan f g h = absurd (true≢false (sym h))
