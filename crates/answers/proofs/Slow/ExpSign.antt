@@ -23,7 +23,7 @@ use Rattle.bounds.proofs.Scales.{S, Bound, at, fast-bounds}
 use Rattle.bounds.proofs.Compared.{positive-at, positive-add, positive-bits}
 use Rattle.answers.proofs.Signs.Plain.{plain-narrowed}
 use Rattle.answers.proofs.Slow.ExpSize.{Product, product-near-one}
-use Rattle.answers.proofs.Slow.PowerSlot.{power-slot}
+use Rattle.answers.proofs.Slow.PowerSlot.{Slot, power-slot}
 
 -- ---- the pattern, with k added to the exponent's field
 abbrev Middle : ℕ → Type 0
@@ -84,14 +84,23 @@ index-unclamped r h = go (powerIndex r) h
     go : (i : ℕ) → i < 33 → i ≡ min i 32
     go i h = omega arith
 
-pub away-clear : (t : DoubleDouble) (k : Float) → Bound S (2 ^ 52) (t .hi ⊖ k) → Bound S (2 ^ 45) (t .lo) → T (clear (exp2Away t k))
-unfolding exp2Away
-away-clear t k b c =
-    let v = fromExactAdd (t .hi ⊖ k) (t .lo) in
-    let f = fast-bounds b c tt in
-    let s = power-slot (v .hi) (at (65 * 2 ^ 46) (f .hi) tt) in
-    let e = index-unclamped (v .hi) (s .inside) in
-    let i = clampedIndex (v .hi) in
-    scaled-clear (exp2Product v i) (isSmall k i (t .hi)) (clampedK k)
-    (subst (λ (n : ℕ). Product (exp2Product v n)) e (product-near-one v (powerIndex (v .hi)) (s .inside) (s .rest) (at (2 ^ 8) (f .lo) tt)))
-    (clamped-k-within k)
+-- v.hi is 65/128 at most in size
+abbrev shifted : DoubleDouble → Float → DoubleDouble
+shifted t k = fromExactAdd (t .hi ⊖ k) (t .lo)
+
+module _ (t : DoubleDouble) (k : Float) (b : Bound S (2 ^ 52) (t .hi ⊖ k)) (c : Bound S (2 ^ 45) (t .lo)) where
+  slot : Slot (shifted t k .hi)
+  slot = power-slot (shifted t k .hi) (at (65 * 2 ^ 46) (fast-bounds b c tt .hi) tt)
+
+  -- so the index is inside the table without being cut
+  pub index-inside : powerIndex (fromExactAdd (t .hi ⊖ k) (t .lo) .hi) < 33
+  index-inside = slot .inside
+
+  pub away-clear : T (clear (exp2Away t k))
+  unfolding exp2Away
+  away-clear =
+      let v = shifted t k in
+      let i = clampedIndex (v .hi) in
+      scaled-clear (exp2Product v i) (isSmall k i (t .hi)) (clampedK k)
+      (subst (λ (n : ℕ). Product (exp2Product v n)) (index-unclamped (v .hi) (slot .inside)) (product-near-one v (powerIndex (v .hi)) (slot .inside) (slot .rest) (at (2 ^ 8) (fast-bounds b c tt .lo) tt)))
+      (clamped-k-within k)

@@ -23,7 +23,7 @@ use Rattle.double_double.specs.declared.DoubleDouble.{DoubleDouble}
 use Rattle.double_double.specs.DoubleDouble.{fromExactAdd, quickMultF64}
 use Rattle.compound.specs.Special as Special
 use Rattle.compound.specs.Special.{one, minusOne}
-use Rattle.compound.specs.Fast.{compoundfLog2p1Fast}
+use Rattle.compound.specs.Fast.{compoundfLog2p1Fast, powerIndex}
 use Rattle.compound.specs.Slow.{onePlus, compoundfLog2p1Accurate, isNearOne, exp2Away, exp2Accurate, compoundfAccurate}
 use Rattle.compound.specs.Route.{Tabled}
 use Rattle.compound.proofs.Index.{between-finite}
@@ -33,7 +33,7 @@ use Rattle.bounds.proofs.Operation.{mul-near, nothing}
 use Rattle.bounds.proofs.Sums.{sides}
 use Rattle.bounds.proofs.Scales.{S, S-pos, one-is, unit, unit-left, Scale, Through, Bound, Bounds, at, onto, mul-bound, mul-limit, quick-f64-bounds, productK, quickF64LoK, tested}
 use Rattle.bounds.proofs.Compared.{Positive, positive-add, le-units, le-of-units, le-other}
-use Rattle.answers.proofs.Slow.ExpSign.{away-clear}
+use Rattle.answers.proofs.Slow.ExpSign.{index-inside, away-clear}
 use Rattle.answers.proofs.Slow.LogCases.{Nil, parted-logs}
 use Rattle.answers.proofs.Slow.Logs.{Logs}
 use Rattle.answers.proofs.Slow.Lost.{lost-logs}
@@ -322,19 +322,41 @@ one-plus-f32 nan p h = absurd p
 one-plus-f32 (inf s) p h = absurd p
 one-plus-f32 (fin s m e) p h = sum-clear binary32 s m e h
 
+-- the exponent of the slow path, for every pair that takes it
+record Exponent (t : DoubleDouble) : Type 0 where
+  number : Number (t .hi)
+  second : Bound S (2 ^ 45) (t .lo)
+
+module _ (x y : Float) (tabled : Tabled x y) (low : le (compoundfLog2p1Fast x ⊗ y) (fin true 75 (pos 1)) ≡ false) (high : lt (compoundfLog2p1Fast x ⊗ y) (fin false 1 (pos 7)) ≡ true)
+    (apart : leb (toBits binary64 (compoundfLog2p1Fast x ⊗ y) * 2 % 2 ^ 64) 0x3e6715476ba97f14 ≡ false) where
+  Y : Number y × (mag y ≤ 2 ^ 128 * perOne)
+  Y = f32-number y (tabled .y-fits) (tabled .y-finite)
+
+  slow-exponent : Exponent (quickMultF64 (compoundfLog2p1Accurate x) y)
+  slow-exponent = go (both-logs x (tabled .x-fits) (tabled .x-finite) (tabled .x-above))
+    where
+      go : Logs (compoundfLog2p1Fast x) (compoundfLog2p1Accurate x) ⊎ Nil (compoundfLog2p1Fast x) → Exponent (quickMultF64 (compoundfLog2p1Accurate x) y)
+      go (inl logs) =
+          let t = t-number (compoundfLog2p1Fast x ⊗ y) (mul-fits binary64 (compoundfLog2p1Fast x) y) low high .1 in
+          record {
+            number = exponent-size (compoundfLog2p1Fast x) y (compoundfLog2p1Accurate x) logs (Y .0) (Y .1) t .hi .number;
+            second = second-part (compoundfLog2p1Fast x) y (compoundfLog2p1Accurate x) logs (Y .0) (Y .1) t;
+          }
+      go (inr nil) = absurd (true≢false (sym (ap (λ (n : ℕ). leb n 0x3e6715476ba97f14) (nil-bits (compoundfLog2p1Fast x) y nil (Y .0))) ∙ apart))
+
+  -- its index is inside the table of powers: no index is cut
+  pub slow-index : let t = quickMultF64 (compoundfLog2p1Accurate x) y in powerIndex (fromExactAdd (t .hi ⊖ nearestWhole (t .hi)) (t .lo) .hi) < 33
+  slow-index =
+      let t = quickMultF64 (compoundfLog2p1Accurate x) y in
+      index-inside t (nearestWhole (t .hi)) (distance (t .hi) (slow-exponent .number)) (slow-exponent .second)
+
+  power-clear : T (clear (exp2Accurate (quickMultF64 (compoundfLog2p1Accurate x) y)))
+  power-clear = exp2-clear (quickMultF64 (compoundfLog2p1Accurate x) y) (slow-exponent .number) (slow-exponent .second)
+
 pub slow-clear : SlowClear
 unfolding compoundfAccurate
 slow-clear x y tabled low high apart = go (eq y one)
   where
-    Y : Number y × (mag y ≤ 2 ^ 128 * perOne)
-    Y = f32-number y (tabled .y-fits) (tabled .y-finite)
-
-    by-logs : Logs (compoundfLog2p1Fast x) (compoundfLog2p1Accurate x) ⊎ Nil (compoundfLog2p1Fast x) → T (clear (exp2Accurate (quickMultF64 (compoundfLog2p1Accurate x) y)))
-    by-logs (inl logs) =
-        let t = t-number (compoundfLog2p1Fast x ⊗ y) (mul-fits binary64 (compoundfLog2p1Fast x) y) low high in
-        exp2-clear (quickMultF64 (compoundfLog2p1Accurate x) y) (exponent-size (compoundfLog2p1Fast x) y (compoundfLog2p1Accurate x) logs (Y .0) (Y .1) (t .1) .hi .number) (second-part (compoundfLog2p1Fast x) y (compoundfLog2p1Accurate x) logs (Y .0) (Y .1) (t .1))
-    by-logs (inr nil) = absurd (true≢false (sym (ap (λ (n : ℕ). leb n 0x3e6715476ba97f14) (nil-bits (compoundfLog2p1Fast x) y nil (Y .0))) ∙ apart))
-
     go : (b : Bool) → T (clear (cond b (add binary32 one x) (exp2Accurate (quickMultF64 (compoundfLog2p1Accurate x) y))))
     go true = one-plus-f32 x (tabled .x-finite) (tabled .x-above)
-    go false = by-logs (both-logs x (tabled .x-fits) (tabled .x-finite) (tabled .x-above))
+    go false = power-clear x y tabled low high apart
