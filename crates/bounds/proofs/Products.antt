@@ -1,5 +1,5 @@
 -- `split` and Dekker's product, from above, where nothing overflows. `split` leaves hi within 2^-25 of a, relatively, and lo at most 2^-25 of a
--- (`split-near`). The lo of `fromExactMult` is at most 2^-22 of the product and four units of 2^-1074 (`dekker-near`). That it is the error exactly is not
+-- (`split-near`). The lo of `fromExactMult` is at most 2^-22 of the product and eight units of 2^-1074 (`dekker-near`). That it is the error exactly is not
 -- claimed here. Assumes nothing.
 use mathlib.Core.Path.{_≡_, refl, sym, ap, subst}
 use mathlib.Core.Logic.{_⊎_, inl, inr}
