@@ -112,8 +112,8 @@ def is_whole(x, y):
     return n.is_integer() and 1 <= abs(n) <= 16 and base != 0 and -1 < base < 2.0**64
 
 
-# A fraction times 2^e, cut after so many digits that no rounding to f32 is near; an odd last digit
-# says that something was cut.
+# A fraction times 2^e, cut after some 200 digits; the last digit is 1 where something was cut, so
+# that the rounding to f32 stays right.
 def cut(num, den, e):
     shift = max(BITS + den.bit_length() - num.bit_length(), 0)
     m, rest = divmod(num << shift, den)
@@ -314,7 +314,7 @@ def both(draw_x, draw_y):
 
 REACH = "y so that the answer is from 2^-149 to 2^128, evenly in its exponent"
 HALF = "y so that from 1/2 to 1 is left, evenly"
-TWICE = "y so that it grows to from 1 to 2"
+TWICE = "y so that it grows to between 1 and 2 times"
 
 # The name of a range, what it holds, and a draw from it. Unless it says otherwise, sizes are even
 # in the logarithm.
@@ -549,6 +549,15 @@ bbcbfbd1 c63439f7 73712bd1 slow 73712bd2
 25000001 5c576e1e 664fefcb fast 52e6b88d
 a5d0a416 dc60b2da 7c3d46e3 fast 7f800000
 21800000 5d800000 3f800000 edge 402df854
+b7d63033 41700000 3f7fe6e7 whole 3f7fe6e8
+b965f476 41200000 3f7f706c whole 3f7f706b
+b6d5b8f2 c1700000 3f800322 whole 3f800321
+b8d3e7d3 c1300000 3f802472 whole 3f802471
+b8ccc852 c0000000 3f800666 whole 3f800667
+babb71de c0000000 3f805dec whole 3f805ded
+bba56ffe c0a00000 3f8347de whole 3f8347dd
+3c10f54f c1500000 3f644d12 whole 3f644d11
+3c55563d 41000000 3f8df512 whole 3f8df511
 """
 
 # Ties that are answered well: one between subnormal f32s, and one of a whole exponent.
@@ -592,7 +601,7 @@ def test_pairs(text):
 
 
 # The rounding: where it turns, and beside the machine's own rounding of an f64 to f32, on ties and
-# next to them, half of them subnormal.
+# next to them, about half of them subnormal.
 def test_rounding(random):
     for value, right in TURNS:
         require(nearest(*value) == right, f"the rounding of {value}")
@@ -655,14 +664,36 @@ def report(run, first, ranges):
     print()
 
 
-# Does what the arguments say: [slow] [count] [range]...
+# Every x of fade's range with every whole y, 1 to 16 in size and of either sign: the pairs that the
+# oracle program finds near a midpoint are evaluated, and no other can be misrounded.
+def every(run):
+    found = subprocess.run([ORACLE, "midpoints"], capture_output=True, text=True, check=True)
+    pairs = [tuple(int(p, 16) for p in line.split()) for line in found.stdout.splitlines()]
+    print(f"every x from -1e-2 to -1e-6, y whole, 1 to 16 in size: {len(pairs):,} by a midpoint")
+    total = Tally()
+    for x, y, r, via in ask(pairs):
+        run.compare(total, x, y, r, via)
+        right, value = exact(x, y)
+        if r != right:
+            print(f"{x:08x} {y:08x} {r:08x} {via}, right {right:08x}: {ulps(r, *value):.10f} ulps")
+    head("Range")
+    row(["every", *total.cells()])
+    print()
+
+
+# Does what the arguments say: every, or [slow] [count] [range]...
 def main(words):
+    if words == ["every"]:
+        self_test()
+        run = Run(0, False)
+        every(run)
+        return 0 if run.report_bound() else 1
     slow = words[:1] == ["slow"]
     words = words[slow:]
     count = int(words.pop(0)) if words and words[0].isdigit() else COUNT
     known = [name for table, _, _, ranges in TABLES for name in (table, *(r[0] for r in ranges))]
     if not set(words) <= set(known):
-        print("accuracy: the arguments are [slow] [count] [range]..., the ranges", file=sys.stderr)
+        print("accuracy: the arguments are every, or [slow] [count] [range]..., the ranges", file=sys.stderr)
         print("  " + ", ".join(known), file=sys.stderr)
         return 2
     print(f"seed: {SEED:016x}, {count:,} pairs a range{', only slow ones count' if slow else ''}")

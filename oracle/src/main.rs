@@ -1,7 +1,8 @@
 // The Rust beside it: compares the exports of our static library with the crate's own functions,
 // value by value. Without an argument in the short form, with `long` in the long one; with
 // `compound` only the answers for pairs. With `bench` it measures both instead, with `vectors` it
-// writes the list of pairs for the replay, and with `answers` it answers the pairs that it reads.
+// writes the list of pairs for the replay, with `answers` it answers the pairs that it reads, and
+// with `midpoints` it lists the pairs with a whole exponent that may be misrounded.
 
 #![allow(dead_code)]
 
@@ -57,9 +58,13 @@ fn main() -> ExitCode {
             answers::answer();
             return ExitCode::SUCCESS;
         }
+        ["midpoints"] => {
+            answers::near_midpoints();
+            return ExitCode::SUCCESS;
+        }
         _ => {
-            eprintln!("oracle: the arguments are [long] [compound], bench, vectors, answers;");
-            eprintln!("  of oracle/run also accuracy [slow] [count] [range]...");
+            eprintln!("oracle: the arguments are [long] [compound], bench, vectors, answers, midpoints;");
+            eprintln!("  of oracle/run also accuracy every, accuracy [slow] [count] [range]...");
             return ExitCode::from(2);
         }
     };

@@ -1,5 +1,5 @@
--- The order of two finite f64s in units of 2^-1074: `le` is that of the differences (`le-units`, `le-of-units`). And values from one positive number of the
--- scale of 1 to another (`Positive`), through a product and a sum, to the exponent's field of the pattern (`positive-bits`). Assumes nothing.
+-- The order of two finite f64s in units of 2^-1074 (`le-units`, `le-of-units`); values between two positive numbers on the scale of 1 (`Positive`), through a product
+-- and a sum; the patterns of such values (`positive-bits`, `bits-from-two`). Assumes nothing.
 use mathlib.Core.Path.{_≡_, sym, ap, ap₂, _∙_, subst}
 use mathlib.Core.Logic.{_⊎_, inl, inr}
 use mathlib.Core.Bool.{Bool, true, false, not, _&&_, _||_}
@@ -192,7 +192,7 @@ high-end : (X : ℕ) → X ≤ 2 ^ 73 * S → X < 2 ^ (53 - 1 + 1044)
 unfolding S
 high-end X h = lt-of-le-of-lt h (lit< tt)
 
--- ---- the pattern of what is from 2^-20 to 2^20 in size: its exponent's field is from 1003 to 1043
+-- ---- the pattern of what is from 2^-20 to 2^20 in size: its exponent's field is from 1003 to 1044
 pub positive-bits : {a b : ℕ} {x : Float} → Positive a b x → T (leb (2 ^ 33) a) → T (leb b (2 ^ 73)) → (1003 * 2 ^ 52 ≤ toBits binary64 x) × (toBits binary64 x < 1045 * 2 ^ 52)
 positive-bits {a} {b} {x} p u v = go x (p .number) (p .clear) (le-trans (mul-le-mul-right S (leb→le (2 ^ 33) a u)) (p .least)) (le-trans (p .most) (mul-le-mul-right S (leb→le b (2 ^ 73) v)))
   where
@@ -247,18 +247,18 @@ bits-from-two {x} p = go x (p .number) (p .clear) (p .least) (p .most)
         bits-of-clear binary64 k e (n .held) ∙ ap (λ (z : ℕ). (z - 53) * 2 ^ 52 + X / 2 ^ (z - 53)) (two-digits X l m)
 
 -- the pattern without its last digits: the place among the 64ths, and among the 32nds
-pub place-in-64ths : {x : Float} → Positive (2 ^ 54) (2 ^ 55 - 1) x → toBits binary64 x / 2 ^ 45 ≡ 130944 + plus x / (2 ^ 47 * S)
+pub place-in-64ths : {x : Float} → Positive (2 ^ 54) (2 ^ 55 - 1) x → toBits binary64 x / 2 ^ 45 ≡ 1023 * 2 ^ 7 + plus x / (2 ^ 47 * S)
 unfolding S
-place-in-64ths {x} p = ap (λ (n : ℕ). n / 2 ^ 45) (bits-from-two p) ∙ go (plus x / 2 ^ 1023) ∙ ap (λ (n : ℕ). 130944 + n) (div-div-eq-div-mul (plus x) (2 ^ 1023) (2 ^ 45))
+place-in-64ths {x} p = ap (λ (n : ℕ). n / 2 ^ 45) (bits-from-two p) ∙ go (plus x / 2 ^ 1023) ∙ ap (λ (n : ℕ). 1023 * 2 ^ 7 + n) (div-div-eq-div-mul (plus x) (2 ^ 1023) (2 ^ 45))
   where
-    go : (n : ℕ) → (1023 * 4503599627370496 + n) / 2 ^ 45 ≡ 130944 + n / 2 ^ 45
+    go : (n : ℕ) → (1023 * 4503599627370496 + n) / 2 ^ 45 ≡ 1023 * 2 ^ 7 + n / 2 ^ 45
     go n = omega arith
 
-pub place-in-32nds : {x : Float} → Positive (2 ^ 54) (2 ^ 55 - 1) x → toBits binary64 x / 2 ^ 46 ≡ 65472 + plus x / (2 ^ 48 * S)
+pub place-in-32nds : {x : Float} → Positive (2 ^ 54) (2 ^ 55 - 1) x → toBits binary64 x / 2 ^ 46 ≡ 1023 * 2 ^ 6 + plus x / (2 ^ 48 * S)
 unfolding S
-place-in-32nds {x} p = ap (λ (n : ℕ). n / 2 ^ 46) (bits-from-two p) ∙ go (plus x / 2 ^ 1023) ∙ ap (λ (n : ℕ). 65472 + n) (div-div-eq-div-mul (plus x) (2 ^ 1023) (2 ^ 46))
+place-in-32nds {x} p = ap (λ (n : ℕ). n / 2 ^ 46) (bits-from-two p) ∙ go (plus x / 2 ^ 1023) ∙ ap (λ (n : ℕ). 1023 * 2 ^ 6 + n) (div-div-eq-div-mul (plus x) (2 ^ 1023) (2 ^ 46))
   where
-    go : (n : ℕ) → (1023 * 4503599627370496 + n) / 2 ^ 46 ≡ 65472 + n / 2 ^ 46
+    go : (n : ℕ) → (1023 * 4503599627370496 + n) / 2 ^ 46 ≡ 1023 * 2 ^ 6 + n / 2 ^ 46
     go n = omega arith
 
 -- a quotient by u, from both sides
@@ -298,8 +298,8 @@ positive-sum {a} {b} {c} {d} {x} {y} p q t u =
         finish p n q m r l a b c d E z N M ap pb cq qd u (past (r + (n + m)) (l + (p + q)) D E e g) (past (l + (p + q)) (r + (n + m)) D E e h)
 
 -- of two values one is at most the other; where x is not, it is the larger, strictly
-pub le-other : (x y : Float) → Number x → Number y → le x y ≡ false → plus y + less x < plus x + less y
-le-other x y p q e = go (leb (plus x + less y) (plus y + less x)) (leb→le (plus x + less y) (plus y + less x)) (nleb→lt (plus x + less y) (plus y + less x))
+pub gt-of-not-le : (x y : Float) → Number x → Number y → le x y ≡ false → plus y + less x < plus x + less y
+gt-of-not-le x y p q e = go (leb (plus x + less y) (plus y + less x)) (leb→le (plus x + less y) (plus y + less x)) (nleb→lt (plus x + less y) (plus y + less x))
   where
     go : (b : Bool) → (T b → plus x + less y ≤ plus y + less x) → (T (not b) → plus y + less x < plus x + less y) → plus y + less x < plus x + less y
     go true h g = absurd (subst T e (le-of-units x y p q (h tt)))

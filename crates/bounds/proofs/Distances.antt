@@ -14,7 +14,7 @@ use Rattle.double_double.specs.DoubleDouble.{fromFullExactAdd, fullAddF64, ddFm
 use Rattle.bounds.proofs.Values.{plus, less, mag, one-side}
 use Rattle.bounds.proofs.Operation.{limit, add-near}
 use Rattle.bounds.proofs.Sums.{sum-small}
-use Rattle.bounds.proofs.Scales.{Bound, both-sizes, one-part, small-limit, ok, sumK, productK, Through, add-bound, dekker-bounds, full-bounds, fmlaLoK, fmlaOk, fmla-parts}
+use Rattle.bounds.proofs.Scales.{Bound, both-sizes, one-part, small-limit, ok, sumK, productK, ProductScale, add-bound, dekker-bounds, full-bounds, fmlaLoK, fmlaOk, fmla-parts}
 
 pub record Apart (μ K : ℕ) (x y : Float) : Type 0 where
   pub over : plus x + less y ≤ less x + plus y + K * μ
@@ -42,7 +42,7 @@ apart-through {μ} {K} {L} {x} {y} {z} a b = record {
 abbrev pub apartK : ℕ → ℕ → ℕ
 apartK K L = L + ((K + L) / 2 ^ 53 + 1)
 
--- d of 2^53 parts
+-- k is at most 2^53 times (k / 2^53 + 1)
 pub parts : (k μ : ℕ) → k * μ ≤ (k / 2 ^ 53 + 1) * μ * 2 ^ 53
 parts k μ = le-trans (mul-le-mul-right μ (over k)) (le-of-eq (mul-right-comm (k / 2 ^ 53 + 1) (2 ^ 53) μ))
   where
@@ -82,7 +82,7 @@ add-apart-right {μ} {K} {L} {x} {y} p q t =
 abbrev pub fmlaApartK : ℕ → ℕ → ℕ → ℕ
 fmlaApartK K L C = fmlaLoK K L C + ((fmlaLoK K L C + sumK (productK K L) C) / 2 ^ 53 + 1) + (productK K L + ((productK K L + C) / 2 ^ 53 + 1))
 
-pub fmla-apart : {μ ν π K L C : ℕ} {x y c : Float} → Through μ ν π → Bound μ K x → Bound ν L y → Bound π C c → T (fmlaOk K L C) → Apart π (fmlaApartK K L C) (ddFmla x y c) c
+pub fmla-apart : {μ ν π K L C : ℕ} {x y c : Float} → ProductScale μ ν π → Bound μ K x → Bound ν L y → Bound π C c → T (fmlaOk K L C) → Apart π (fmlaApartK K L C) (ddFmla x y c) c
 unfolding ddFmla fullAddF64 fromFullExactAdd
 fmla-apart {μ} {ν} {π} {K} {L} {C} {x} {y} {c} t p q r g =
     let o = fmla-parts K L C g in

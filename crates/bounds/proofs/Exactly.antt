@@ -33,8 +33,8 @@ one = fin false 1 (pos 0)
 abbrev minusOne : Float
 minusOne = fin true 1 (pos 0)
 
-abbrev naught : Float
-naught = fin false 0 (pos 0)
+abbrev nought : Float
+nought = fin false 0 (pos 0)
 
 one-number : Number one
 one-number = record { held = unfold fits in tt; plain = tt }
@@ -42,8 +42,8 @@ one-number = record { held = unfold fits in tt; plain = tt }
 minus-one-number : Number minusOne
 minus-one-number = record { held = unfold fits in tt; plain = tt }
 
-naught-number : Number naught
-naught-number = record { held = unfold fits in tt; plain = tt }
+nought-number : Number nought
+nought-number = record { held = unfold fits in tt; plain = tt }
 
 one-mag : mag one ≡ perOne
 unfolding perOne
@@ -191,7 +191,7 @@ no-factor : (w a : ℕ) → 0 < w → w * a ≡ 0 → a ≡ 0
 no-factor w zero h e = refl
 no-factor w (suc a) h e = absurd (lt-irrefl 0 (lt-of-lt-of-le (mul-pos h (zero-lt-suc a)) (le-of-eq e)))
 
-one-times : (x : Float) → Number x → Same (one ⊗ x) x
+pub one-times : (x : Float) → Number x → Same (one ⊗ x) x
 one-times x n = go (direction x)
   where
     P : Product one x
@@ -224,19 +224,19 @@ one-times x n = go (direction x)
 no-size : (p n : ℕ) → p + n ≡ 0 → (p ≡ 0) × (n ≡ 0)
 no-size p n h = (omega arith, omega arith)
 
-naught-times : (x : Float) → Number x → Same (naught ⊗ x) naught
-naught-times x n =
-    let no-product : mag naught * mag x ≡ 0 = zero-mul (mag x) in
-    let m = mul-near naught-number n (subst (λ (k : ℕ). k ≤ limit * perOne) (sym no-product) (from-zero (limit * perOne))) in
-    let e = no-size (plus (naught ⊗ x)) (less (naught ⊗ x)) (nothing (mag (naught ⊗ x)) (mag naught * mag x) perOne perOne-pos no-product (m .most)) in
+nought-times : (x : Float) → Number x → Same (nought ⊗ x) nought
+nought-times x n =
+    let no-product : mag nought * mag x ≡ 0 = zero-mul (mag x) in
+    let m = mul-near nought-number n (subst (λ (k : ℕ). k ≤ limit * perOne) (sym no-product) (from-zero (limit * perOne))) in
+    let e = no-size (plus (nought ⊗ x)) (less (nought ⊗ x)) (nothing (mag (nought ⊗ x)) (mag nought * mag x) perOne perOne-pos no-product (m .most)) in
     record { number = m .number; plus-same = e .0; less-same = e .1 }
   where
     from-zero : (a : ℕ) → 0 ≤ a
     from-zero a = omega arith
 
-naught-sum : {x y : Float} → Same x naught → Same y naught → Same (x ⊕ y) naught
-naught-sum {x} {y} a b =
-    add-exact (a .number) (b .number) naught-number (ap₂ (λ (i j : ℕ). i + j + 0) (a .plus-same) (b .plus-same) ∙ sym (ap₂ (λ (i j : ℕ). i + j + 0) (a .less-same) (b .less-same)))
+nought-sum : {x y : Float} → Same x nought → Same y nought → Same (x ⊕ y) nought
+nought-sum {x} {y} a b =
+    add-exact (a .number) (b .number) nought-number (ap₂ (λ (i j : ℕ). i + j + 0) (a .plus-same) (b .plus-same) ∙ sym (ap₂ (λ (i j : ℕ). i + j + 0) (a .less-same) (b .less-same)))
 
 -- ---- p - n and n - p round to opposite values
 record Opposite (z w : Float) : Type 0 where
@@ -293,44 +293,44 @@ turned-difference x y {v} {w} p q a b n =
     rounded-opposite (difference-in-units x y p q) R n
 
 -- ---- Dekker's product of 1 and u: u, and no error
-split-one : split one ≡ record { lo = naught; hi = one }
+split-one : split one ≡ record { lo = nought; hi = one }
 unfolding split sub add mul
 split-one = refl
 
-error-of-one : (u h r : Float) → Number u → Number h → Number (u ⊖ h) → Same r u → Same (naught ⊗ (u ⊖ h) ⊕ (naught ⊗ h ⊕ (one ⊗ (u ⊖ h) ⊕ (one ⊗ h ⊖ r)))) naught
+error-of-one : (u h r : Float) → Number u → Number h → Number (u ⊖ h) → Same r u → Same (nought ⊗ (u ⊖ h) ⊕ (nought ⊗ h ⊕ (one ⊗ (u ⊖ h) ⊕ (one ⊗ h ⊖ r)))) nought
 error-of-one u h r p q n same =
     let l = one-times (u ⊖ h) n in
     let t = turned-difference u h p q same (one-times h q) n in
-    let t2 = add-exact (l .number) (t .number) naught-number
+    let t2 = add-exact (l .number) (t .number) nought-number
     (ap₂ (λ (i j : ℕ). i + j + 0) (l .plus-same) (t .plus-is) ∙ ap (λ (i : ℕ). i + 0) (add-comm (plus (u ⊖ h)) (less (u ⊖ h))) ∙ sym (ap₂ (λ (i j : ℕ). i + j + 0) (l .less-same) (t .less-is))) in
-    naught-sum (naught-times (u ⊖ h) n) (naught-sum (naught-times h q) t2)
+    nought-sum (nought-times (u ⊖ h) n) (nought-sum (nought-times h q) t2)
 
-record TimesOne (u : Float) (r : DoubleDouble) : Type 0 where
-  hi : Same (r .hi) u
-  lo : Same (r .lo) naught
+pub record TimesOne (u : Float) (r : DoubleDouble) : Type 0 where
+  pub hi : Same (r .hi) u
+  pub lo : Same (r .lo) nought
 
-dekker-one : (u : Float) → Number u → (mag u + 1) * 2 ^ 28 ≤ limit → TimesOne u (fromExactMult one u)
+pub dekker-one : (u : Float) → Number u → (mag u + 1) * 2 ^ 28 ≤ limit → TimesOne u (fromExactMult one u)
 unfolding fromExactMult split
 dekker-one u p l =
     let h = split-near p l in
     let same = one-times u p in
     record {
       hi = same;
-      lo = subst (λ (s : DoubleDouble). Same (s .lo ⊗ split u .lo ⊕ (s .lo ⊗ split u .hi ⊕ (s .hi ⊗ split u .lo ⊕ (s .hi ⊗ split u .hi ⊖ one ⊗ u)))) naught) (sym split-one)
+      lo = subst (λ (s : DoubleDouble). Same (s .lo ⊗ split u .lo ⊕ (s .lo ⊗ split u .hi ⊕ (s .hi ⊗ split u .lo ⊕ (s .hi ⊗ split u .hi ⊖ one ⊗ u)))) nought) (sym split-one)
           (error-of-one u (split u .hi) (one ⊗ u) p (h .hi-number) (h .lo-number) same);
     }
 
 -- ---- the full add of an exact sum has no error
-level-difference : {x y : Float} → Number x → Same y x → Same (x ⊖ y) naught
-level-difference {x} {y} p same = sub-exact p (same .number) naught-number (ap (λ (i : ℕ). i + 0) (ap (λ (i : ℕ). plus x + i) (same .less-same) ∙ add-comm (plus x) (less x) ∙ ap (λ (i : ℕ). less x + i) (sym (same .plus-same))))
+level-difference : {x y : Float} → Number x → Same y x → Same (x ⊖ y) nought
+level-difference {x} {y} p same = sub-exact p (same .number) nought-number (ap (λ (i : ℕ). i + 0) (ap (λ (i : ℕ). plus x + i) (same .less-same) ∙ add-comm (plus x) (less x) ∙ ap (λ (i : ℕ). less x + i) (sym (same .plus-same))))
 
-full-exact : {a b : Float} → Number a → Number b → Number (a ⊕ b) → plus (a ⊕ b) + less a + less b ≡ less (a ⊕ b) + plus a + plus b → Same (fromFullExactAdd a b .lo) naught
+pub full-exact : {a b : Float} → Number a → Number b → Number (a ⊕ b) → plus (a ⊕ b) + less a + less b ≡ less (a ⊕ b) + plus a + plus b → Same (fromFullExactAdd a b .lo) nought
 unfolding fromFullExactAdd
 full-exact {a} {b} p q n e =
     let t1 : Same (a ⊕ b ⊖ a) b = sub-exact n p q e in
     let t2 : Same (a ⊕ b ⊖ (a ⊕ b ⊖ a)) a = sub-exact n (t1 .number) p
     (ap (λ (i : ℕ). plus (a ⊕ b) + i + less a) (t1 .less-same) ∙ last (plus (a ⊕ b)) (less b) (less a) ∙ e ∙ last (less (a ⊕ b)) (plus a) (plus b) ∙ ap (λ (i : ℕ). less (a ⊕ b) + i + plus a) (sym (t1 .plus-same))) in
-    naught-sum (level-difference q t1) (level-difference p t2)
+    nought-sum (level-difference q t1) (level-difference p t2)
   where
     last : (x y z : ℕ) → x + y + z ≡ x + z + y
     last x y z = omega arith
@@ -345,8 +345,8 @@ same-off {u} {h} {z} o s = record {
 }
 
 -- nothing plus h
-naught-plus : {l h : Float} → Same l naught → Number h → Same (l ⊕ h) h
-naught-plus {l} {h} s n = add-exact (s .number) n n (ap (λ (i : ℕ). i + plus h + less h) (s .plus-same) ∙ go (plus h) (less h) ∙ ap (λ (i : ℕ). i + less h + plus h) (sym (s .less-same)))
+nought-plus : {l h : Float} → Same l nought → Number h → Same (l ⊕ h) h
+nought-plus {l} {h} s n = add-exact (s .number) n n (ap (λ (i : ℕ). i + plus h + less h) (s .plus-same) ∙ go (plus h) (less h) ∙ ap (λ (i : ℕ). i + less h + plus h) (sym (s .less-same)))
   where
     go : (p n : ℕ) → 0 + p + n ≡ 0 + n + p
     go p n = omega arith
@@ -371,4 +371,4 @@ fmla-minus-one u p =
     let r = fromExactMult one u .hi in
     let o = off r p (m .hi) in
     let e = full-exact (m .hi .number) minus-one-number (o .number) (off-exact p (m .hi) o) in
-    same-off o (naught-plus (naught-sum (m .lo) e) (o .number))
+    same-off o (nought-plus (nought-sum (m .lo) e) (o .number))

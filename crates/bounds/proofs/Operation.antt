@@ -1,6 +1,6 @@
 -- How far one f64 operation is from the exact result, where nothing overflows. A sum or a difference is within a relative 2^-53 of the exact one,
 -- subnormal results too (`add-near`, `sub-near`); a product within that and half of a unit of 2^-1074 (`mul-near`). A sum that an f64 holds is exact
--- (`add-exact`). Assumes nothing.
+-- (`add-exact`). Division stands once, in the route `whole`: `reciprocal` in answers/proofs/Whole/Within.antt. Assumes nothing.
 use mathlib.Core.Path.{_≡_, refl, sym, ap, ap₂, _∙_, subst}
 use mathlib.Core.Logic.{_⊎_, inl, inr}
 use mathlib.Core.Bool.{Bool, true, false, not}
@@ -19,9 +19,9 @@ use Rattle.floats.proofs.Laws.Units.{exponent, in-units, fits-signed}
 use Rattle.floats.proofs.Laws.Sums.{above, under, Signed, Rounded}
 use Rattle.bounds.proofs.Values.{perOne, perOne-pos, plus, less, mag, mag-of, one-side, Number, Units, by-value, sum-in-units, neg-plus, neg-less, neg-number, Along, product-in-units}
 
--- as far as this nothing overflows: 2^1000, in units
+-- the largest f64, in units: as far as this nothing overflows
 unfoldable pub limit : ℕ
-limit = 2 ^ 2074
+limit = (2 ^ 53 - 1) * 2 ^ 2045
 
 -- ---- one rounding of k units
 -- x has the sign s, and its units are k but for a relative 2^-53

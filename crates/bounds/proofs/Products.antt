@@ -242,7 +242,7 @@ record Sized (M k j : ℕ) (x : Float) : Type 0 where
   size : mag x * perOne * 2 ^ 30 ≤ k * M + j * (perOne * 2 ^ 30)
 
 -- M is below the overflow
-abbrev Moderate : ℕ → Type 0
+abbrev pub Moderate : ℕ → Type 0
 Moderate M = (M + perOne) * 16 ≤ limit * perOne
 
 -- a sum of two, rounded

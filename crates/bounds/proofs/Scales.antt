@@ -32,7 +32,7 @@ pub one-is : perOne ≡ S * 2 ^ 53
 unfolding perOne S
 one-is = refl
 
--- a scale is positive and not too large
+-- a scale is positive, and at most 2^189 times that of 1
 pub record Scale (μ : ℕ) : Type 0 where
   pub positive : 0 < μ
   pub bounded : μ ≤ 2 ^ 1210
@@ -50,7 +50,7 @@ pub record Bound (μ K : ℕ) (x : Float) : Type 0 where
 pub at : {μ K : ℕ} {x : Float} (M : ℕ) → Bound μ K x → T (leb K M) → Bound μ M x
 at {μ} {K} {x} M b t = record { scale = b .scale; number = b .number; size = le-trans (b .size) (mul-le-mul-right μ (leb→le K M t)) }
 
--- another scale: c × μ is at most d × ν
+-- another scale, where K × μ is at most M × ν
 pub onto : {μ K : ℕ} {x : Float} (ν M : ℕ) → Scale ν → Bound μ K x → K * μ ≤ M * ν → Bound ν M x
 onto ν M s b h = record { scale = s; number = b .number; size = le-trans (b .size) h }
 
@@ -101,7 +101,8 @@ rounded-up m k μ P h =
 pub both-sizes : {μ K L : ℕ} {x y : Float} → Bound μ K x → Bound μ L y → mag x + mag y ≤ (K + L) * μ
 both-sizes {μ} {K} {L} p q = le-trans (add-le-add (p .size) (q .size)) (le-of-eq (sym (add-mul K L μ)))
 
-pub one-part : (d l : ℕ) → d * 2 ^ 40 ≤ l → (d ≤ l) × (4 * d ≤ l)
+-- a size with room to spare
+pub one-part : (d l : ℕ) → d * 2 ^ 40 ≤ l → (d ≤ l) × (2 * d ≤ l)
 one-part d l h = (omega arith, omega arith)
 
 pub add-bound : {μ K L : ℕ} {x y : Float} → Bound μ K x → Bound μ L y → T (ok (K + L)) → Bound μ (sumK K L) (x ⊕ y)
@@ -120,14 +121,14 @@ sub-bound p q t = add-bound p (neg-bound q) t
 
 -- ---- a product
 -- values on the scales μ and ν have their product on the scale π
-pub record Through (μ ν π : ℕ) : Type 0 where
+pub record ProductScale (μ ν π : ℕ) : Type 0 where
   pub scale : Scale π
   pub le : μ * ν ≤ S * π
 
-pub unit-left : {μ : ℕ} → Scale μ → Through S μ μ
+pub unit-left : {μ : ℕ} → Scale μ → ProductScale S μ μ
 unit-left {μ} s = record { scale = s; le = le-refl (S * μ) }
 
-pub unit-right : {μ : ℕ} → Scale μ → Through μ S μ
+pub unit-right : {μ : ℕ} → Scale μ → ProductScale μ S μ
 unit-right {μ} s = record { scale = s; le = le-of-eq (mul-comm μ S) }
 
 abbrev pub productK : ℕ → ℕ → ℕ
@@ -137,7 +138,7 @@ abbrev pub dekkerK : ℕ → ℕ → ℕ
 dekkerK K L = (K * L + 2 ^ 78) / 2 ^ 75 + 1
 
 -- the product of the sizes
-sizes : {μ ν π K L : ℕ} {x y : Float} → Through μ ν π → Bound μ K x → Bound ν L y → mag x * mag y ≤ K * L * (S * π)
+sizes : {μ ν π K L : ℕ} {x y : Float} → ProductScale μ ν π → Bound μ K x → Bound ν L y → mag x * mag y ≤ K * L * (S * π)
 sizes {μ} {ν} {π} {K} {L} t p q = le-trans (mul-le-mul (p .size) (q .size)) (le-trans (le-of-eq (mul-mul-mul-comm K μ L ν)) (mul-le-mul-left (K * L) (t .le)))
 
 -- m × s × c ≤ (k × c' + e) × s × π, where e units are at most e × π: then m is at most (k × c' + e) / c + 1 of π
@@ -178,10 +179,10 @@ product-limit K L π k l h = le-trans (mul-le-mul-right 16 (add-le-add (mul-le-m
 within-limit : (k w L m : ℕ) → m ≤ k → (k + w) * 16 ≤ L → (m ≤ L) × ((m + w) * 16 ≤ L)
 within-limit k w L m h g = (omega arith, omega arith)
 
-pub mul-limit : {μ ν π K L : ℕ} {x y : Float} → Through μ ν π → Bound μ K x → Bound ν L y → T (ok K) → T (ok L) → mag x * mag y ≤ limit * perOne
+pub mul-limit : {μ ν π K L : ℕ} {x y : Float} → ProductScale μ ν π → Bound μ K x → Bound ν L y → T (ok K) → T (ok L) → mag x * mag y ≤ limit * perOne
 mul-limit {μ} {ν} {π} {K} {L} {x} {y} t p q k l = within-limit (K * L * (S * π)) perOne (limit * perOne) (mag x * mag y) (sizes t p q) (product-limit K L π k l (t .scale .bounded)) .0
 
-pub mul-bound : {μ ν π K L : ℕ} {x y : Float} → Through μ ν π → Bound μ K x → Bound ν L y → T (ok K) → T (ok L) → Bound π (productK K L) (x ⊗ y)
+pub mul-bound : {μ ν π K L : ℕ} {x y : Float} → ProductScale μ ν π → Bound μ K x → Bound ν L y → T (ok K) → T (ok L) → Bound π (productK K L) (x ⊗ y)
 mul-bound {μ} {ν} {π} {K} {L} {x} {y} t p q k l =
     let w = sizes t p q in
     let r = mul-near (p .number) (q .number) (mul-limit t p q k l) in
@@ -250,7 +251,7 @@ limit-large : 2 ^ 40 ≤ limit
 unfolding limit
 limit-large = lit≤ tt
 
-pub dekker-bounds : {μ ν π K L : ℕ} {x y : Float} → Through μ ν π → Bound μ K x → Bound ν L y → T (ok K) → T (ok L) → Bounds π (productK K L) (dekkerK K L) (fromExactMult x y)
+pub dekker-bounds : {μ ν π K L : ℕ} {x y : Float} → ProductScale μ ν π → Bound μ K x → Bound ν L y → T (ok K) → T (ok L) → Bounds π (productK K L) (dekkerK K L) (fromExactMult x y)
 dekker-bounds {μ} {ν} {π} {K} {L} {x} {y} t p q k l =
     let w = sizes t p q in
     let r = dekker-near (p .number) (q .number)
@@ -276,7 +277,7 @@ quickLoK K k L l = sumK (dekkerK K L) (sumK (productK K l) (productK k L))
 abbrev pub quickOk : ℕ → ℕ → ℕ → ℕ → Bool
 quickOk K k L l = ok K && ok k && ok L && ok l && ok (productK K l + productK k L) && ok (dekkerK K L + sumK (productK K l) (productK k L))
 
-pub quick-bounds : {μ ν π K k L l : ℕ} {x y : DoubleDouble} → Through μ ν π → Bounds μ K k x → Bounds ν L l y → T (quickOk K k L l) → Bounds π (productK K L) (quickLoK K k L l) (quickMult x y)
+pub quick-bounds : {μ ν π K k L l : ℕ} {x y : DoubleDouble} → ProductScale μ ν π → Bounds μ K k x → Bounds ν L l y → T (quickOk K k L l) → Bounds π (productK K L) (quickLoK K k L l) (quickMult x y)
 unfolding quickMult
 quick-bounds {μ} {ν} {π} {K} {k} {L} {l} {x} {y} t p q g =
     let o = six (ok K) (ok k) (ok L) (ok l) (ok (productK K l + productK k L)) (ok (dekkerK K L + sumK (productK K l) (productK k L))) g in
@@ -291,7 +292,7 @@ quick-bounds {μ} {ν} {π} {K} {k} {L} {l} {x} {y} t p q g =
 abbrev pub quickF64LoK : ℕ → ℕ → ℕ → ℕ
 quickF64LoK K k L = sumK (dekkerK K L) (productK k L)
 
-pub quick-f64-bounds : {μ ν π K k L : ℕ} {x : DoubleDouble} {y : Float} → Through μ ν π → Bounds μ K k x → Bound ν L y → T (ok K && ok k && ok L && ok (dekkerK K L + productK k L))
+pub quick-f64-bounds : {μ ν π K k L : ℕ} {x : DoubleDouble} {y : Float} → ProductScale μ ν π → Bounds μ K k x → Bound ν L y → T (ok K && ok k && ok L && ok (dekkerK K L + productK k L))
     → Bounds π (productK K L) (quickF64LoK K k L) (quickMultF64 x y)
 unfolding quickMultF64
 quick-f64-bounds {μ} {ν} {π} {K} {k} {L} {x} {y} t p q g =
@@ -319,7 +320,7 @@ fmla-parts K L C g = five (ok K) (ok L) (ok (productK K L + C)) (ok (dekkerK K L
     five : (a b c d e : Bool) → T (a && b && c && d && e) → T a × T b × T c × T d × T e
     five true true true true true h = (tt, tt, tt, tt, tt)
 
-pub fmla-bound : {μ ν π K L C : ℕ} {x y c : Float} → Through μ ν π → Bound μ K x → Bound ν L y → Bound π C c → T (fmlaOk K L C) → Bound π (fmlaK K L C) (ddFmla x y c)
+pub fmla-bound : {μ ν π K L C : ℕ} {x y c : Float} → ProductScale μ ν π → Bound μ K x → Bound ν L y → Bound π C c → T (fmlaOk K L C) → Bound π (fmlaK K L C) (ddFmla x y c)
 unfolding ddFmla fullAddF64
 fmla-bound {μ} {ν} {π} {K} {L} {C} {x} {y} {c} t p q r g =
     let o = fmla-parts K L C g in
@@ -353,7 +354,7 @@ add-small-bound {μ} {x} {y} K s p q b t =
     record { scale = s; number = c .number; size = rounded-up (mag (x ⊕ y)) K μ (s .positive) (close-mag (K * μ) c b) }
 
 -- `ddFmla` where the rounded product and c all but cancel: their sum is at most D
-pub fmla-small : {μ ν π K L C : ℕ} {x y c : Float} (D : ℕ) → Through μ ν π → Bound μ K x → Bound ν L y → Bound π C c → Small (plus (x ⊗ y) + plus c) (less (x ⊗ y) + less c) (D * π)
+pub fmla-small : {μ ν π K L C : ℕ} {x y c : Float} (D : ℕ) → ProductScale μ ν π → Bound μ K x → Bound ν L y → Bound π C c → Small (plus (x ⊗ y) + plus c) (less (x ⊗ y) + less c) (D * π)
     → T (fmlaOk K L C) → T (ok D) → T (ok (fmlaLoK K L C + (D + (D / 2 ^ 53 + 1)))) → Bound π (sumK (fmlaLoK K L C) (D + (D / 2 ^ 53 + 1))) (ddFmla x y c)
 unfolding ddFmla fullAddF64 fromFullExactAdd fromExactMult
 fmla-small {μ} {ν} {π} {K} {L} {C} {x} {y} {c} D t p q r b g d e =

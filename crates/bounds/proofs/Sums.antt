@@ -64,10 +64,10 @@ fast-lo pa na pb nb ph nh pt nt d g h k l = record { upper = omega arith; lower 
 three-and : (m d : ℕ) → m * 2 ^ 53 ≤ 3 * d / 2 ^ 53 * 2 ^ 53 + 3 * d / 2 ^ 53 → m * 2 ^ 53 ≤ 4 * d
 three-and m d h = omega arith
 
-less-than : (d l : ℕ) → 4 * d ≤ l → (d ≤ l) × (2 * d ≤ l) × (3 * d / 2 ^ 53 ≤ l) × (4 * d / 2 ^ 53 ≤ l)
+less-than : (d l : ℕ) → 2 * d ≤ l → (d ≤ l) × (2 * d ≤ l) × (3 * d / 2 ^ 53 ≤ l) × (4 * d / 2 ^ 53 ≤ l)
 less-than d l h = (omega arith, omega arith, omega arith, omega arith)
 
-pub fast-sum : {a b : Float} (d : ℕ) → Number a → Number b → mag a + mag b ≤ d → 4 * d ≤ limit → FastSum a b d
+pub fast-sum : {a b : Float} (d : ℕ) → Number a → Number b → mag a + mag b ≤ d → 2 * d ≤ limit → FastSum a b d
 unfolding fromExactAdd
 fast-sum {a} {b} d p q s l =
     let w = less-than d limit l in
@@ -124,7 +124,7 @@ four-and m d h = omega arith
 parts : (d : ℕ) → (3 * d / 2 ^ 53 * 2 ^ 53 ≤ 3 * d) × (4 * d / 2 ^ 53 * 2 ^ 53 ≤ 4 * d)
 parts d = (omega arith, omega arith)
 
-pub full-sum : {a b : Float} (d : ℕ) → Number a → Number b → mag a + mag b ≤ d → 4 * d ≤ limit → FullSum a b d
+pub full-sum : {a b : Float} (d : ℕ) → Number a → Number b → mag a + mag b ≤ d → 2 * d ≤ limit → FullSum a b d
 unfolding fromFullExactAdd
 full-sum {a} {b} d p q s l =
     let w = less-than d limit l in

@@ -1,6 +1,6 @@
 -- A finite f64 as a difference of two whole numbers, in units of 2^-1074: what it has above zero, `plus`, less what it has below, `less`. One of the two
--- is 0. What an operation gives, in these units: a sum is the exact sum, rounded (`sum-in-units`), and a product the exact product
--- (`product-in-units`). Assumes nothing.
+-- is 0. What an operation gives, in these units: a sum is the exact sum, rounded (`sum-in-units`), and a product the exact product,
+-- rounded (`product-in-units`). Assumes nothing.
 use mathlib.Core.Path.{_≡_, refl, sym, ap, ap₂, _∙_}
 use mathlib.Core.Logic.{_⊎_, inl, inr}
 use mathlib.Core.Bool.{Bool, true, false}

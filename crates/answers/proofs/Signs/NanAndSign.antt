@@ -1,5 +1,5 @@
 -- The claims on NaN and on the sign, route by route: an answer is a NaN exactly where x or y is NaN or x is below -1, and it is plain otherwise
--- (`answer-told`). What is left is the slow path, by hypothesis. Assumes nothing.
+-- (`answer-told`). The slow path is by hypothesis, which Slow/SlowSign.antt proves. Assumes nothing.
 use mathlib.Core.Path.{_≡_, refl, sym, ap₂, subst}
 use mathlib.Core.Bool.{Bool, true, false, cond, _||_}
 use Prim.Native.Nat.{_*_}
@@ -14,7 +14,7 @@ use Rattle.compound.specs.Whole as Whole
 use Rattle.compound.specs.Route.{tablePath, compound}
 use Rattle.compound.proofs.Rule.{OffRule, off-rule, finite-number}
 use Rattle.answers.specs.Claims.{answer, nanExactly, signClear}
-use Rattle.answers.proofs.Signs.Plain.{Plain, AsTold, told-nan, told-sign}
+use Rattle.answers.proofs.Signs.Plain.{Plain, NanOrPlain, told-nan, told-sign}
 use Rattle.answers.proofs.Signs.RuleValues.{rule-told}
 use Rattle.answers.proofs.Signs.WholeValues.{whole-plain}
 use Rattle.answers.proofs.Signs.TableValues.{SlowClear, table-plain}
@@ -45,16 +45,16 @@ module _ (slow : SlowClear) (x y : Float) (x-fits : T (fits binary32 x)) (y-fits
       go true e = whole-plain x y (o .x-above) e
       go false e = table-plain slow x y (record { x-fits = x-fits; x-finite = o .x-finite; x-above = o .x-above; y-fits = y-fits; y-finite = o .y-finite })
 
-  answer-told : AsTold (isNan x || isNan y || lt x minusOne) (answer x y)
+  answer-told : NanOrPlain (isNan x || isNan y || lt x minusOne) (answer x y)
   unfolding compound
   answer-told = go (isRule x y) refl
     where
       rest : Outcome
       rest = beyond x y (Whole.isWhole x y)
 
-      go : (b : Bool) → isRule x y ≡ b → AsTold (isNan x || isNan y || lt x minusOne) (cond b (record { via = rule; value = special x y }) rest .value)
+      go : (b : Bool) → isRule x y ≡ b → NanOrPlain (isNan x || isNan y || lt x minusOne) (cond b (record { via = rule; value = special x y }) rest .value)
       go true e = rule-told x y e
-      go false e = subst (λ (b : Bool). AsTold b (rest .value)) (sym (told-plain x y (off-rule x y e))) (beyond-plain (off-rule x y e))
+      go false e = subst (λ (b : Bool). NanOrPlain b (rest .value)) (sym (told-plain x y (off-rule x y e))) (beyond-plain (off-rule x y e))
 
   -- ---- "The answer is NaN exactly when x is NaN, y is NaN, or x < -1."
   pub nan-exactly : nanExactly x y

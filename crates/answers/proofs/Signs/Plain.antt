@@ -1,5 +1,5 @@
 -- The f32s whose sign is clear, NaN left out (`Plain`): constants among them, and what narrowing gives. An answer is to be a NaN or such a value, by a
--- test (`AsTold`), and each of the two claims on NaN and sign follows from that. Assumes nothing.
+-- test (`NanOrPlain`), and each of the two claims on NaN and sign follows from that. Assumes nothing.
 use mathlib.Core.Path.{_≡_, refl, ap, subst}
 use mathlib.Core.Bool.{Bool, true, false, not, cond}
 use Prim.Native.Nat.{_*_, _^_, _<_}
@@ -17,12 +17,12 @@ pub record Plain (r : Float) : Type 0 where
   pub is-clear : T (clear r)
 
 -- a NaN where the test is true, and such a value where it is false
-abbrev pub AsTold : Bool → Float → Type 0
-AsTold true r = r ≡ nan
-AsTold false r = Plain r
+abbrev pub NanOrPlain : Bool → Float → Type 0
+NanOrPlain true r = r ≡ nan
+NanOrPlain false r = Plain r
 
 -- so the test tells whether the answer is a NaN
-pub told-nan : (b : Bool) (r : Float) → AsTold b r → isNan r ≡ b
+pub told-nan : (b : Bool) (r : Float) → NanOrPlain b r → isNan r ≡ b
 unfolding isNan
 told-nan true r e = ap isNan e
 told-nan false nan p = absurd (p .is-clear)
@@ -30,7 +30,7 @@ told-nan false (inf s) p = refl
 told-nan false (fin s m e) p = refl
 
 -- and any other answer has 0 for its highest bit
-pub told-sign : (b : Bool) (r : Float) → AsTold b r → T (not (isNan r)) → toBits binary32 r < 2 ^ 31
+pub told-sign : (b : Bool) (r : Float) → NanOrPlain b r → T (not (isNan r)) → toBits binary32 r < 2 ^ 31
 unfolding isNan toBits
 told-sign true r e n = absurd (subst (λ (x : Float). T (not (isNan x))) e n)
 told-sign false nan p n = absurd n

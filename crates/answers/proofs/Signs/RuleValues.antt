@@ -6,7 +6,7 @@ use mathlib.Core.List.{List, [], _∷_}
 use lib.Ieee.{Float, nan, isNan, lt}
 use Rattle.compound.specs.Special.{minusOne, isRule, specialTable, firstThatFits, special}
 use Rattle.compound.proofs.Rule.{anyRowFits, a-row-fits}
-use Rattle.answers.proofs.Signs.Plain.{Plain, AsTold, plain-zero, plain-one, plain-infinity}
+use Rattle.answers.proofs.Signs.Plain.{Plain, NanOrPlain, plain-zero, plain-one, plain-infinity}
 
 -- every row of a table has a plain value, and so has the first that fits
 abbrev PlainRows : List (Bool × Float) → Type 0
@@ -20,13 +20,13 @@ first-plain ((true, r) ∷ rows) p e = p .0
 first-plain ((false, r) ∷ rows) p e = first-plain rows (p .1) e
 
 -- two rows of NaNs above them
-after-nans : (a b : Bool) (rows : List (Bool × Float)) → PlainRows rows → anyRowFits ((a, nan) ∷ (b, nan) ∷ rows) ≡ true → AsTold (a || b) (firstThatFits ((a, nan) ∷ (b, nan) ∷ rows))
+after-nans : (a b : Bool) (rows : List (Bool × Float)) → PlainRows rows → anyRowFits ((a, nan) ∷ (b, nan) ∷ rows) ≡ true → NanOrPlain (a || b) (firstThatFits ((a, nan) ∷ (b, nan) ∷ rows))
 unfolding anyRowFits firstThatFits
 after-nans true b rows p e = refl
 after-nans false true rows p e = refl
 after-nans false false rows p e = first-plain rows p e
 
-pub rule-told : (x y : Float) → isRule x y ≡ true → AsTold (isNan x || isNan y || lt x minusOne) (special x y)
+pub rule-told : (x y : Float) → isRule x y ≡ true → NanOrPlain (isNan x || isNan y || lt x minusOne) (special x y)
 unfolding special specialTable
 rule-told x y e =
     after-nans (isNan x || isNan y) (lt x minusOne) _

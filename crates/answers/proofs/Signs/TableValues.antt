@@ -1,5 +1,6 @@
 -- The answers of the table path are plain (`table-plain`). Those of the route `edge` are constants. A value of the route `fast` has passed the rounding
--- test, so it is no NaN and not below a constant above 0. Of the route `slow` it is a hypothesis (`SlowClear`). Assumes nothing.
+-- test, so it is no NaN and not below a constant above 0. Of the route `slow` it is a hypothesis (`SlowClear`), which Slow/SlowSign.antt proves.
+-- Assumes nothing.
 use mathlib.Core.Path.{_≡_, refl, sym, ap, _∙_}
 use mathlib.Core.Bool.{Bool, true, false, not, cond, true≢false}
 use Prim.Native.Nat.{ℕ, _+_, _*_, _%_, _^_, _<_}
@@ -23,7 +24,7 @@ use Rattle.compound.specs.Slow.{compoundfLog2p1Accurate, isNearOne, scaledToF32
 use Rattle.compound.specs.Route.{Tabled, decided, fromLogarithm, tablePath}
 use Rattle.answers.proofs.Signs.Plain.{Plain, plain-zero, plain-one, plain-infinity, plain-narrowed, either}
 
--- what is left to show of the slow path: its value has a clear sign where the tests of the route `edge` fail
+-- what the slow path owes: its value has a clear sign where the tests of the route `edge` fail
 abbrev pub SlowClear : Type 0
 SlowClear =
     (x y : Float) → Tabled x y

@@ -1,5 +1,5 @@
 -- The product of `compoundf_exp2_accurate` stays near 1: where the rest of the exponent is at most 1/32 in size, and a little more, the polynomial is from 3/4 to
--- 5/4 (`poly-near-one`), and times a power from the table, hi + lo is from 1/4 to 2 (`product-near-one`). Numbers are on the scale of 1, where 2^53 is
+-- 5/4 (`poly-near-one`), and times a power from the table, hi is from 1/4 to 2 and lo at most 2^-49 (`product-near-one`). Numbers are on the scale of 1, where 2^53 is
 -- 1. Assumes nothing.
 use Prim.Native.Nat.{ℕ, _+_, _-_, _*_, _^_, _<_}
 use lib.Dec.{lit<}

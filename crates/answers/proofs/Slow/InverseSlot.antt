@@ -44,13 +44,13 @@ highest = 65 * 2 ^ 47 + 2 ^ 24
 abbrev number : ℕ → ℕ
 number k = plus (entry log2p1CompoundfInv k) / 2 ^ 1021
 
-abbrev fair : ℕ → Bool
-fair k =
+abbrev fitsSlot : ℕ → Bool
+fitsSlot k =
     between (number k) (number k) (entry log2p1CompoundfInv k) && leb (number k) (3 * 2 ^ 52) && ok (number k) && ok ((k + 46) * 2 ^ 47 + 4) && productFits (number k) ((k + 45) * 2 ^ 47 - 4) lowest
     && leb (productK (number k) ((k + 46) * 2 ^ 47 + 4)) highest
 
 -- the inverse of index k, and its product with what lies in its slot
-record Fair (k : ℕ) (r : Float) : Type 0 where
+record FitsSlot (k : ℕ) (r : Float) : Type 0 where
   of-r : ℕ
   positive : Positive of-r of-r r
   small : T (leb of-r (3 * 2 ^ 52))
@@ -62,17 +62,17 @@ record Fair (k : ℕ) (r : Float) : Type 0 where
 six : (a b c d e f : Bool) → T (a && b && c && d && e && f) → T a × T b × T c × T d × T e × T f
 six true true true true true true h = (tt, tt, tt, tt, tt, tt)
 
-inverse-fair : (k : ℕ) → k < 46 → Fair k (entry log2p1CompoundfInv k)
+inverse-fits : (k : ℕ) → k < 46 → FitsSlot k (entry log2p1CompoundfInv k)
 unfolding entry log2p1CompoundfInv ofBits fits
-inverse-fair k h =
+inverse-fits k h =
     let n = number k in
-    let o = six (between n n (entry log2p1CompoundfInv k)) (leb n (3 * 2 ^ 52)) (ok n) (ok ((k + 46) * 2 ^ 47 + 4)) (productFits n ((k + 45) * 2 ^ 47 - 4) lowest) (leb (productK n ((k + 46) * 2 ^ 47 + 4)) highest) (carried 46 fair tt k h) in
+    let o = six (between n n (entry log2p1CompoundfInv k)) (leb n (3 * 2 ^ 52)) (ok n) (ok ((k + 46) * 2 ^ 47 + 4)) (productFits n ((k + 45) * 2 ^ 47 - 4) lowest) (leb (productK n ((k + 46) * 2 ^ 47 + 4)) highest) (carried 46 fitsSlot tt k h) in
     record { of-r = n; positive = tested-positive n n (entry log2p1CompoundfInv k) (o .0); small = o .1; r-ok = o .2; slot-ok = o .3; low = o .4; high = o .5 }
 
 -- at most 3/2
 pub inverse-size : (k : ℕ) → k < 46 → Bound S (3 * 2 ^ 52) (entry log2p1CompoundfInv k)
 inverse-size k h =
-    let r = inverse-fair k h in
+    let r = inverse-fits k h in
     at (3 * 2 ^ 52) (positive-bound (r .positive)) (r .small)
 
 -- -1
@@ -102,7 +102,7 @@ module _ (t : Float) (b : Positive (2 ^ 52) (3 * 2 ^ 52) t) (has : HasInverse t)
   unfolding i w inverseIndex
   place-is = go (toBits binary64 (t ⊕ two) / 2 ^ 45) (plus (t ⊕ two) / (2 ^ 47 * S)) (place-in-64ths sum-is) (has .0)
     where
-      go : (n q : ℕ) → n ≡ 130944 + q → 0x2002d ≤ n → n - 0x2002d + 173 ≡ q
+      go : (n q : ℕ) → n ≡ 1023 * 2 ^ 7 + q → 0x2002d ≤ n → n - 0x2002d + 173 ≡ q
       go n q e h = omega arith
 
   exact : Close (plus t + plus two) (less t + less two) ((3 * 2 ^ 52 + 2 ^ 54) * S) w
@@ -156,7 +156,7 @@ module _ (t : Float) (b : Positive (2 ^ 52) (3 * 2 ^ 52) t) (has : HasInverse t)
   pub inverse-slot : Bound S (2 ^ 47 + 2 ^ 33) (ddFmla (entry log2p1CompoundfInv (inverseIndex t)) t minusOne)
   unfolding i
   inverse-slot =
-      let r = inverse-fair i (has .1) in
+      let r = inverse-fits i (has .1) in
       let m = positive-at lowest highest (positive-mul lowest (r .positive) in-slot (r .r-ok) (r .slot-ok) (r .low)) tt (r .high) in
       let c = minus-one-is in
       at (2 ^ 47 + 2 ^ 33)

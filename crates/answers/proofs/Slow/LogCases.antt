@@ -1,5 +1,4 @@
--- The two logarithms of 1 + x are on one scale, for every finite f32 x above -1, or the fast one is 0 (`both-logs`). The cases are those of `Logs`, and x below
--- 2^-53 in size, which the accurate logarithm keeps as a second part while the fast one has 1 or the f64 before it. Assumes nothing.
+-- Where x is not lost in the sum, the two logarithms of 1 + x are on one scale, or the fast one is 0 (`parted-logs`). The cases are those of `Logs`. Assumes nothing.
 use mathlib.Core.Path.{_≡_, sym, ap, ap₂, _∙_, subst}
 use mathlib.Core.Logic.{_⊎_, inl, inr}
 use Prim.Native.Nat.{ℕ, _+_, _-_, _*_, _/_, _%_, _^_, _≤_, _<_, zero-le}

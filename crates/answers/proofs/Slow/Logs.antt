@@ -1,6 +1,6 @@
 -- The two logarithms beside each other: wherever the fast one is l, the accurate one is at most 72 × |l| in its hi and 2^-18 × |l| in its lo (`Logs`). Three cases:
--- 1 + x is a power of two away from 1 or more (`far-whole`); it is nearer than that, but its inverse is not 1 (`far-part`); and its inverse is 1
--- (`near`), where z is 1 + x less 1 and both logarithms are on the scale of z. Assumes nothing.
+-- the exponent e of 1 + x is not 0 (`far-whole`); e is 0 and the inverse is not 1 (`far-part`); e is 0 and the inverse is 1 (`near`), where z is 1 + x less 1 and
+-- both logarithms are on the scale of z. Assumes nothing.
 use mathlib.Core.Path.{_≡_, refl, sym, ap, _∙_, subst}
 use Prim.Native.Nat.{ℕ, zero, _+_, _-_, _*_, _^_, _≤_, _<_}
 use native.Mathlib.Nat.{le-refl, le-trans, le-of-eq, mul-assoc, mul-right-comm, mul-le-mul-right, mul-le-mul, mul-pos, zero-mul, one-mul, le-add-right, le-of-mul-le-mul-right}
@@ -96,8 +96,8 @@ module _ (E : ℕ) (least : 1 ≤ E) (most : E ≤ 150) where
 
 -- ---- e is 0, and the inverse is not 1
 -- a value of size 0 on any scale
-pub nought : {x : Float} (μ : ℕ) → Scale μ → Number x → mag x ≡ 0 → Bound μ 0 x
-nought μ s n e = record { scale = s; number = n; size = le-trans (le-of-eq e) (le-of-eq (sym (zero-mul μ))) }
+pub nil-bound : {x : Float} (μ : ℕ) → Scale μ → Number x → mag x ≡ 0 → Bound μ 0 x
+nil-bound μ s n e = record { scale = s; number = n; size = le-trans (le-of-eq e) (le-of-eq (sym (zero-mul μ))) }
 
 -- 2^53 of these are 1/128
 part : ℕ
@@ -118,7 +118,7 @@ part-scale-is = refl
 pub far-part : {e p : Float} {a b : DoubleDouble} → Number e → mag e ≡ 0 → Bound S (47 * 2 ^ 42 + 2 ^ 36) p → 35 * 2 ^ 43 * S ≤ mag (a .hi) → Bounds S (33 * 2 ^ 47) 1 a → Bounds S (2 ^ 48 + 2 ^ 38) (2 ^ 27) b
     → Logs (e ⊕ (a .hi ⊕ p)) (sumOfLogs e a b)
 far-part {e} {p} {a} {b} n m r least q l =
-    let zero = nought S unit n m in
+    let zero = nil-bound S unit n m in
     let w = add-bound (q .hi) r tt in
     let logs = logs-size zero q l tt in
     let off = apart-through (apart-at 4 (add-apart-right zero w tt) tt) (apart-at (48 * 2 ^ 42) (add-apart (q .hi) r tt) tt) in
@@ -206,11 +206,11 @@ module _ (z : Float) (n : Number z) (q : ℕ) (size : mag z ≡ q * S) (some : 0
       → Logs (e ⊕ (a .hi ⊕ log2p1Polyeval1 z)) (sumOfLogs e a (log2Poly2 z'))
   unfolding p σ
   near {e} {a} {z'} ne me nh mh nl ml bounds own =
-      let zero = nought σ z-scale ne me in
-      let high = nought σ z-scale nh mh in
+      let zero = nil-bound σ z-scale ne me in
+      let high = nil-bound σ z-scale nh mh in
       let w = at (2 ^ 54) (add-bound high p-bound tt) tt in
       let l = add-bound zero w tt in
-      let logs = logs-size zero (record { hi = high; lo = nought σ z-scale nl ml }) (poly-size z-scale bounds own tt) tt in
+      let logs = logs-size zero (record { hi = high; lo = nil-bound σ z-scale nl ml }) (poly-size z-scale bounds own tt) tt in
       let off = apart-through (apart-at 8 (add-apart-right zero w tt) tt) (apart-at 8 (add-apart-right high p-bound tt) tt) in
       subst (λ (k : Float). Logs (e ⊕ (a .hi ⊕ k)) (sumOfLogs e a (log2Poly2 z'))) (sym (fast-is z)) (record {
         μ = σ;

@@ -24,7 +24,7 @@ use Rattle.compound.proofs.Index.{pattern-between}
 use Rattle.bounds.proofs.Values.{plus, less, mag, Number}
 use Rattle.bounds.proofs.Scales.{S, unit, unit-left, Scale, Bound, at, mul-bound, fast-bounds, tested}
 use Rattle.bounds.proofs.Compared.{le-of-units, positive-bound}
-use Rattle.answers.proofs.Slow.Logs.{Logs, near, nought}
+use Rattle.answers.proofs.Slow.Logs.{Logs, near, nil-bound}
 use Rattle.answers.proofs.Slow.LogCases.{Nil}
 use Rattle.answers.proofs.Slow.LowPart.{one-is-1}
 use Rattle.answers.proofs.Slow.Reduced.{no-power, one-19}
@@ -153,8 +153,8 @@ before-logs x n h =
     let Y : Bound (1 * 2 ^ 968) (2 ^ 53) x = record { scale = own-scale; number = n; size = own-size (mag x) h } in
     let same = sym (mul-one binary64 x (n .held)) in
     let unity = positive-bound one-is-1 in
-    let b = fast-bounds (nought S unit nil-number refl) (mul-bound (unit-left unit) unity (subst (Bound S 1) same X) tt tt) tt in
-    let c = fast-bounds (nought (1 * 2 ^ 968) own-scale nil-number refl) (mul-bound (unit-left own-scale) unity (subst (Bound (1 * 2 ^ 968) (2 ^ 53)) same Y) tt tt) tt in
+    let b = fast-bounds (nil-bound S unit nil-number refl) (mul-bound (unit-left unit) unity (subst (Bound S 1) same X) tt tt) tt in
+    let c = fast-bounds (nil-bound (1 * 2 ^ 968) own-scale nil-number refl) (mul-bound (unit-left own-scale) unity (subst (Bound (1 * 2 ^ 968) (2 ^ 53)) same Y) tt tt) tt in
     subst (λ (l : Float). Logs l (sumOfLogs (ofInt binary64 (pos 0)) (pairEntry log2p1CompoundfLog2Inv 19) (log2Poly2 (left x)))) (sym before-one)
     (near (fin true 1 (negsuc 52)) (z-is .0) 1 (z-is .1) (lit< tt) (z-is .2) (no-power .0) (no-power .1) (one-19 .hi-number) (one-19 .hi-zero) (one-19 .lo-number) (one-19 .lo-zero)
     (record { hi = at (2 ^ 47 + 2 ^ 36) (b .hi) tt; lo = at (2 ^ 12) (b .lo) tt }) (record { hi = at (5 * 2 ^ 53) (c .hi) tt; lo = at (2 ^ 10) (c .lo) tt }))

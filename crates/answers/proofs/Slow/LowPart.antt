@@ -52,9 +52,9 @@ unfolding le perOne
 above-minus-one x n h = le-trans (le-of-eq (sym (zero-add (less x)))) (le-units minusOne x minus-one-number n (or-l (lt minusOne x) (eq minusOne x) h))
 
 -- so the sum with 1 is below the overflow
-pub sum-limit : (x : Float) → mag x ≤ 2 ^ 128 * perOne → 4 * (mag one + mag x) ≤ limit
+pub sum-limit : (x : Float) → mag x ≤ 2 ^ 128 * perOne → 2 * (mag one + mag x) ≤ limit
 unfolding limit perOne
-sum-limit x h = le-trans (mul-le-mul (le-refl 4) (add-le-add (le-refl (mag one)) h)) (lit≤ tt)
+sum-limit x h = le-trans (mul-le-mul (le-refl 2) (add-le-add (le-refl (mag one)) h)) (lit≤ tt)
 
 -- ---- the sum is not small beside its terms
 -- 2^-24 at least, by its pattern
@@ -96,11 +96,11 @@ terms-small p n q m o k W (inr z) K O a l h = le-trans (le-of-eq (shorter z)) (o
 pub sum-least : (x : Float) → Number x → less x ≤ plus x + perOne → mag x ≤ 2 ^ 128 * perOne → perOne ≤ 2 ^ 24 * mag (one ⊕ x) → mag one + mag x ≤ 2 ^ 25 * mag (one ⊕ x)
 sum-least x n above size least =
     let d = mag one + mag x in
-    let c = add-near d (one-is-1 .number) n (sum-small one x d (le-refl d)) (quarter (mag one + mag x) limit (sum-limit x size)) in
+    let c = add-near d (one-is-1 .number) n (sum-small one x d (le-refl d)) (half (mag one + mag x) limit (sum-limit x size)) in
     terms-small (plus x) (less x) (plus (one ⊕ x)) (less (one ⊕ x)) (plus one) (less one) perOne (one-side x) (one-is-1 .clear) one-mag above least (c .least)
   where
-    quarter : (d l : ℕ) → 4 * d ≤ l → d ≤ l
-    quarter d l h = omega arith
+    half : (d l : ℕ) → 2 * d ≤ l → d ≤ l
+    half d l h = omega arith
 
 -- ---- the low part, with the power of two taken out
 -- the powers of two are at most 2^29

@@ -100,7 +100,7 @@ pub parted-high : (x : Float) → Above x → T (le one x) → Parted x (fromExa
 parted-high x a h =
     let d = mag x + mag one in
     let turn : d ≡ mag one + mag x = add-comm (mag x) (mag one) in
-    let f = fast-sum d (a .number) (one-is-1 .number) (le-refl d) (subst (λ (k : ℕ). 4 * k ≤ limit) (sym turn) (sum-limit x (a .size))) in
+    let f = fast-sum d (a .number) (one-is-1 .number) (le-refl d) (subst (λ (k : ℕ). 2 * k ≤ limit) (sym turn) (sum-limit x (a .size))) in
     record {
       hi-is = unfold fromExactAdd in add-turned binary64 x one;
       lo-number = f .lo-number;
@@ -111,14 +111,14 @@ parted-high x a h =
     impossible : Positive (2 ^ 52) (3 * 2 ^ 52) (one ⊕ x) → ⊥
     impossible p =
         let d = mag one + mag x in
-        let c = add-near d (one-is-1 .number) (a .number) (sum-small one x d (le-refl d)) (quarter d limit (sum-limit x (a .size))) in
+        let c = add-near d (one-is-1 .number) (a .number) (sum-small one x d (le-refl d)) (half d limit (sum-limit x (a .size))) in
         let l = least (plus x) (less x) (plus one) (less one) perOne one-mag (one-is-1 .clear) (le-units one x (one-is-1 .number) (a .number) h) in
         let n = not-negative (plus x) (less x) perOne (one-side x) l in
         none S S-pos
         (too-far (plus x) (plus (one ⊕ x)) S perOne one-is (over (plus x) (less x) perOne l) (p .most) (plain-terms (plus x) (less x) (plus (one ⊕ x)) (less (one ⊕ x)) (plus one) (less one) perOne one-mag (one-is-1 .clear) (p .clear) n (c .least)))
       where
-        quarter : (d l : ℕ) → 4 * d ≤ l → d ≤ l
-        quarter d l h = omega arith
+        half : (d l : ℕ) → 2 * d ≤ l → d ≤ l
+        half d l h = omega arith
 
         none : (s : ℕ) → 0 < s → s ≡ 0 → ⊥
         none s h e = omega arith

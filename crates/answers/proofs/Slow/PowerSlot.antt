@@ -1,4 +1,4 @@
--- The index of the power: for |r| up to 65/128 it is inside the table, and the power's exponent (i - 16)/32 is within 1/64 of r, and a little more
+-- The index of the power: for |r| up to 65/128 it is inside the table, and the power's exponent (i - 16)/32 is within 1/32 of r, and a little more
 -- (`power-slot`). Assumes nothing.
 use mathlib.Core.Path.{_≡_, sym, ap, _∙_, subst}
 use mathlib.Core.Bool.{Bool, true, false, not}
@@ -94,7 +94,7 @@ module _ (r : Float) (b : Bound S (65 * 2 ^ 46) r) where
   unfolding powerIndex w j
   index-is = ap (λ (n : ℕ). n - 0x10010) (place-in-32nds (positive-at (2 ^ 54) (2 ^ 55 - 1) sum-is tt tt)) ∙ less-by (plus w / (2 ^ 48 * S))
     where
-      less-by : (n : ℕ) → 65472 + n - 0x10010 ≡ n - 80
+      less-by : (n : ℕ) → 1023 * 2 ^ 6 + n - 0x10010 ≡ n - 80
       less-by n = omega arith
 
   j-least : 80 ≤ j

@@ -1,6 +1,6 @@
 -- 1 + x with its power of two taken out, and that power: t is from 1/2 to 3/2 (`reduced-positive`), the exponent e is 0 or a whole number of size 1 to 150
 -- (`exponent-size`), and of the entries of the two tables of inverses those of index 18 and 19 are 1 and 0, and the others are far from it
--- (`inverse-one`, `log-far`). Assumes nothing.
+-- (`one-18`, `one-19`, `inverse-cases`). Assumes nothing.
 use mathlib.Core.Path.{_≡_, refl, sym, ap, _∙_, subst}
 use mathlib.Core.Logic.{_⊎_, inl, inr}
 use mathlib.Core.Bool.{Bool, true, false, not, cond, _||_}

@@ -31,8 +31,8 @@ use Rattle.compound.proofs.Scaled.{sum-clear, one-plus-bits}
 use Rattle.bounds.proofs.Values.{perOne, perOne-pos, plus, less, mag, mag-of, one-side, Number}
 use Rattle.bounds.proofs.Operation.{mul-near, nothing}
 use Rattle.bounds.proofs.Sums.{sides}
-use Rattle.bounds.proofs.Scales.{S, S-pos, one-is, unit, unit-left, Scale, Through, Bound, Bounds, at, onto, mul-bound, mul-limit, quick-f64-bounds, productK, quickF64LoK, tested}
-use Rattle.bounds.proofs.Compared.{Positive, positive-add, le-units, le-of-units, le-other}
+use Rattle.bounds.proofs.Scales.{S, S-pos, one-is, unit, unit-left, Scale, ProductScale, Bound, Bounds, at, onto, mul-bound, mul-limit, quick-f64-bounds, productK, quickF64LoK, tested}
+use Rattle.bounds.proofs.Compared.{Positive, positive-add, le-units, le-of-units, gt-of-not-le}
 use Rattle.answers.proofs.Slow.ExpSign.{index-inside, away-clear}
 use Rattle.answers.proofs.Slow.LogCases.{Nil, parted-logs}
 use Rattle.answers.proofs.Slow.Logs.{Logs}
@@ -79,7 +79,7 @@ module _ (x : Float) (f : T (fits binary32 x)) (p : T (finite x)) (h : T (lt min
   below-tiny : le tiny (absolute (narrowed x)) ≡ false → mag x ≤ S
   below-tiny e =
       let w = absolute-units x (num .0) in
-      let o = le-other tiny (absolute x) (tiny-is .0) (w .0) (subst (λ (k : Float). le tiny (absolute k) ≡ false) (narrowed-same x f) e) in
+      let o = gt-of-not-le tiny (absolute x) (tiny-is .0) (w .0) (subst (λ (k : Float). le tiny (absolute k) ≡ false) (narrowed-same x f) e) in
       under (plus tiny) (less tiny) (plus (absolute x)) (less (absolute x)) (mag x) S (tiny-is .1) (tiny-is .2) (w .1) (w .2) o
     where
       under : (p n q m x s : ℕ) → p ≡ s → n ≡ 0 → q ≡ x → m ≡ 0 → q + n < p + m → x ≤ s
@@ -97,7 +97,7 @@ module _ (x : Float) (f : T (fits binary32 x)) (p : T (finite x)) (h : T (lt min
       go : (b : Bool) → le x one ≡ b → (c : Bool) → le tiny (absolute (narrowed x)) ≡ c → Logs (compoundfLog2p1Fast x) (compoundfLog2p1Accurate x) ⊎ Nil (compoundfLog2p1Fast x)
       go true g true k = by-parts (fromExactAdd one x) (split true true g k) (unfold fromExactAdd in refl) (λ a. parted-low x a (subst T (sym g) tt))
       go true g false k = lost-logs x (num .0) (below-tiny k) (split true false g k)
-      go false g c k = by-parts (fromExactAdd x one) (split false c g k) (unfold fromExactAdd in add-turned binary64 x one) (λ a. parted-high x a (le-of-units one x (one-is-1 .number) (num .0) (le-of-lt (le-other x one (num .0) (one-is-1 .number) g))))
+      go false g c k = by-parts (fromExactAdd x one) (split false c g k) (unfold fromExactAdd in add-turned binary64 x one) (λ a. parted-high x a (le-of-units one x (one-is-1 .number) (num .0) (le-of-lt (gt-of-not-le x one (num .0) (one-is-1 .number) g))))
 
 -- ---- t = l × y
 -- it is no NaN: the two tests of the route `edge` say of it what document 01 says
@@ -124,7 +124,7 @@ t-number (inf true) f g h = absurd (true≢false g)
 t-number (inf false) f g h = absurd (true≢false (sym h))
 t-number (fin s m e) f g h =
     let n : Number (fin s m e) = record { held = f; plain = tt } in
-    let low = le-other (fin s m e) (fin true 75 (pos 1)) n (record { held = tt; plain = tt }) g in
+    let low = gt-of-not-le (fin s m e) (fin true 75 (pos 1)) n (record { held = tt; plain = tt }) g in
     let high = le-units (fin s m e) (fin false 1 (pos 7)) n (record { held = tt; plain = tt }) (or-l (lt (fin s m e) (fin false 1 (pos 7))) (eq (fin s m e) (fin false 1 (pos 7))) (subst T (sym h) tt)) in
     (n, sides (plus (fin s m e)) (less (fin s m e)) (150 * 2 ^ 1074) (one-side (fin s m e)) (le-trans (above (plus (fin s m e)) (less (fin s m e)) (2 ^ 1081) high) (widen (less (fin s m e)))) (below (plus (fin s m e)) (less (fin s m e)) (75 * 2 ^ 1075) low))
   where
@@ -184,7 +184,7 @@ module _ (l y : Float) (L : DoubleDouble) (logs : Logs l L) (Y : Number y) (y-mo
   unfolding S
   product-scale = record { positive = lit< tt; bounded = lit≤ tt }
 
-  through : Through (logs .μ) ν (152 * S)
+  through : ProductScale (logs .μ) ν (152 * S)
   unfolding ν
   through = record { scale = product-scale; le = le-trans (joined (logs .μ) (mag y) (mag l) S (logs .size) whole (logs .above .size) (mul-le-mul-right S large-scale)) (le-of-eq (turn S)) }
     where
@@ -217,11 +217,11 @@ module _ (l y : Float) (L : DoubleDouble) (logs : Logs l L) (Y : Number y) (y-mo
           together : (s : ℕ) → 151 * (s * s) + s * s ≡ 152 * (s * s)
           together s = omega arith
 
-  pub exponent-size : Bounds (152 * S) (productK (72 * 2 ^ 53) (2 ^ 53)) (quickF64LoK (72 * 2 ^ 53) (2 ^ 35) (2 ^ 53)) (quickMultF64 L y)
-  exponent-size = quick-f64-bounds through (logs .accurate) y-own tt
+  pub exponent-bounds : Bounds (152 * S) (productK (72 * 2 ^ 53) (2 ^ 53)) (quickF64LoK (72 * 2 ^ 53) (2 ^ 35) (2 ^ 53)) (quickMultF64 L y)
+  exponent-bounds = quick-f64-bounds through (logs .accurate) y-own tt
 
   pub second-part : Bound S (2 ^ 45) (quickMultF64 L y .lo)
-  second-part = onto S (2 ^ 45) unit (exponent-size .lo) (le-trans (le-of-eq (sym (mul-assoc (quickF64LoK (72 * 2 ^ 53) (2 ^ 35) (2 ^ 53)) 152 S))) (mul-le-mul-right S (lit≤ tt)))
+  second-part = onto S (2 ^ 45) unit (exponent-bounds .lo) (le-trans (le-of-eq (sym (mul-assoc (quickF64LoK (72 * 2 ^ 53) (2 ^ 35) (2 ^ 53)) 152 S))) (mul-le-mul-right S (lit≤ tt)))
 
 -- ---- 2 to that power
 positive-clear : {a b : ℕ} {x : Float} → Positive a b x → 0 < a → T (clear x)
@@ -339,7 +339,7 @@ module _ (x y : Float) (tabled : Tabled x y) (low : le (compoundfLog2p1Fast x �
       go (inl logs) =
           let t = t-number (compoundfLog2p1Fast x ⊗ y) (mul-fits binary64 (compoundfLog2p1Fast x) y) low high .1 in
           record {
-            number = exponent-size (compoundfLog2p1Fast x) y (compoundfLog2p1Accurate x) logs (Y .0) (Y .1) t .hi .number;
+            number = exponent-bounds (compoundfLog2p1Fast x) y (compoundfLog2p1Accurate x) logs (Y .0) (Y .1) t .hi .number;
             second = second-part (compoundfLog2p1Fast x) y (compoundfLog2p1Accurate x) logs (Y .0) (Y .1) t;
           }
       go (inr nil) = absurd (true≢false (sym (ap (λ (n : ℕ). leb n 0x3e6715476ba97f14) (nil-bits (compoundfLog2p1Fast x) y nil (Y .0))) ∙ apart))

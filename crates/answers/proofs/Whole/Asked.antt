@@ -24,7 +24,7 @@ use Rattle.compound.specs.Whole as Whole
 use Rattle.compound.specs.Whole.{isWhole}
 use Rattle.compound.specs.Answer.{Outcome, rule, whole}
 use Rattle.compound.specs.Route.{compound, tablePath}
-use Rattle.answers.specs.Claims.{answer, wholeTo16, aboveMinusOne}
+use Rattle.answers.specs.Claims.{answer, wholeTo16, xInRange}
 
 -- a test that fails
 no : (b : Bool) → (T b → ⊥) → b ≡ false
@@ -37,8 +37,8 @@ pub record AskedX (x : Float) : Type 0 where
   pub above : T (lt minusOne x)
   pub under : T (lt x (fin false 1 (pos 64)))
 
-pub asked-x : (x : Float) → T (aboveMinusOne x) → AskedX x
-unfolding aboveMinusOne
+pub asked-x : (x : Float) → T (xInRange x) → AskedX x
+unfolding xInRange
 asked-x x h =
     let two = and-l (not (isZero x) && lt minusOne x) (lt x (fin false 1 (pos 64))) h in
     record {

@@ -1,4 +1,4 @@
--- The two ends of the bound: E × (1 - 2^-k) and E × (1 + 2^-k), rounded to f32, for a k that is not too large (`Fine`). What is within 33 factors of E
+-- The two ends of the bound: E × (1 - 2^-k) and E × (1 + 2^-k), rounded to f32, for a k that is not too large (`SmallEnough`). What is within 33 factors of E
 -- lies between them once narrowed (`between`), so does 0 where the reciprocal leaves the normal range of f64 (`around-zero`), and so does 1 where E is
 -- within 16 factors (2^29 - 1) / 2^29 of 1 (`around-one`). Assumes nothing.
 use mathlib.Core.Path.{_≡_, refl, sym, ap, _∙_, subst}
@@ -19,13 +19,13 @@ use Rattle.floats.proofs.Laws.Order.{clear, pattern-mono, round-clear, round-at
 use Rattle.compound.specs.Special as Special
 use Rattle.answers.specs.Exact.{Fraction}
 use Rattle.answers.specs.Claims.{Near}
-use Rattle.answers.proofs.Whole.Factors.{Close}
+use Rattle.answers.proofs.Whole.Factors.{WithinFactors}
 use Rattle.answers.proofs.Whole.Within.{near, full, Within}
 
 -- What is asked of k. 33 factors change a fraction by 2^-k of it at most (`lower`, `upper`). What is within them of 2^-1022, times 1 - 2^-k, is 2^-150 at
 -- most (`zero`). And what is within 16 factors (2^29 - 1) / 2^29 of 1, times 1 - 2^-k, is 1 + 2^-25 at most, and times 1 + 2^-k, 1 - 2^-25 at least
 -- (`lower-one`, `upper-one`).
-pub record Fine (k : ℕ) : Type 0 where
+pub record SmallEnough (k : ℕ) : Type 0 where
   pub lower : (2 ^ k - 1) * full ^ 33 ≤ 2 ^ k * near ^ 33
   pub upper : 2 ^ k * full ^ 33 ≤ (2 ^ k + 1) * near ^ 33
   pub zero : 2 ^ 52 * full ^ 33 * (2 ^ k - 1) * 2 ^ 150 ≤ 2 ^ k * near ^ 33 * 2 ^ 1074
@@ -45,7 +45,7 @@ upper-end A C a c i I u U P l h =
     let y : a * C * i * U ≤ A * c * I * U = mul-le-mul-right U h in
     le-of-mul-le-mul-right {k = i} (omega arith) P
 
-pub between : {k : ℕ} → Fine k → (E : Fraction) (v : Float) → 0 < E .bottom → Within 33 (E .top) (E .bottom) v → Near k E (narrowed v)
+pub between : {k : ℕ} → SmallEnough k → (E : Fraction) (v : Float) → 0 < E .bottom → Within 33 (E .top) (E .bottom) v → Near k E (narrowed v)
 unfolding Near nearestF32 narrowed
 between {k} fine E v P w =
     let a = w .digits * up (w .exponent) in
@@ -102,7 +102,7 @@ lower-zero a c A C i I u U L M N P Q l g h =
     le-of-mul-le-mul-right {k = i * L} (omega arith) Q
 
 -- E is near to c / a, which is below 2^-1022
-pub around-zero : {k : ℕ} → Fine k → (E : Fraction) (a c : ℕ) (v : Float) → 0 < E .bottom → 0 < a → 0 < c → Close near full 33 a c (E .bottom) (E .top) → c * 2 ^ 1074 < 2 ^ 52 * a
+pub around-zero : {k : ℕ} → SmallEnough k → (E : Fraction) (a c : ℕ) (v : Float) → 0 < E .bottom → 0 < a → 0 < c → WithinFactors near full 33 a c (E .bottom) (E .top) → c * 2 ^ 1074 < 2 ^ 52 * a
     → v ≡ round binary64 false c a → Near k E (narrowed v)
 unfolding Near nearestF32 fits le
 around-zero {k} fine E a c v P A C w h e =
@@ -134,7 +134,7 @@ over-one A C k K u U w W P l h =
     let y : C * (W * U * K) ≤ C * (u * w * k) = mul-le-mul-left C l in
     le-of-mul-le-mul-right {k = K} (omega arith) P
 
-pub around-one : {k : ℕ} → Fine k → (E : Fraction) → 0 < E .bottom → Close (2 ^ 29 - 1) (2 ^ 29) 16 (E .top) (E .bottom) 1 1 → Near k E Special.one
+pub around-one : {k : ℕ} → SmallEnough k → (E : Fraction) → 0 < E .bottom → WithinFactors (2 ^ 29 - 1) (2 ^ 29) 16 (E .top) (E .bottom) 1 1 → Near k E Special.one
 unfolding Near nearestF32 round
 around-one {k} fine E P h = (
   round-mono binary32 (E .top * (2 ^ k - 1)) (E .bottom * 2 ^ k) (2 ^ 25 + 1) (2 ^ 25) (mul-pos P (pow-pos k)) (lit< tt)

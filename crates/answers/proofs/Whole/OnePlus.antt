@@ -20,7 +20,7 @@ use Rattle.compound.specs.Whole.{isTiny}
 use Rattle.compound.proofs.Scaled.{digits-below}
 use Rattle.compound.proofs.Tests.{first}
 use Rattle.answers.specs.Exact.{onePlus}
-use Rattle.answers.proofs.Whole.Factors.{Close}
+use Rattle.answers.proofs.Whole.Factors.{WithinFactors}
 use Rattle.answers.proofs.Whole.Within.{Within, rounded}
 use Rattle.answers.proofs.Whole.Squared.{Base}
 
@@ -96,17 +96,17 @@ sum-within s m e h b =
     subst (Within 1 P R) (sym (sum-is s m e h)) (rounded P R (b .bottom) (base-normal P R (2 ^ 52) (2 ^ 1074) (lit≤ tt) (b .at-least)) (lt-of-le-of-lt (b .at-most) (mul-lt-mul-of-pos-right (lit< tt) (b .bottom))))
 
 -- ---- near to 1
-more-close : (a d : ℕ) → a * 2 ^ 29 ≤ 1 * d → Close (2 ^ 29 - 1) (2 ^ 29) 1 (d + a) d 1 1
+more-close : (a d : ℕ) → a * 2 ^ 29 ≤ 1 * d → WithinFactors (2 ^ 29 - 1) (2 ^ 29) 1 (d + a) d 1 1
 more-close a d h = record { above = omega arith; below = omega arith }
 
-less-close : (a d : ℕ) → a * 2 ^ 29 ≤ 1 * d → Close (2 ^ 29 - 1) (2 ^ 29) 1 (d - a) d 1 1
+less-close : (a d : ℕ) → a * 2 ^ 29 ≤ 1 * d → WithinFactors (2 ^ 29 - 1) (2 ^ 29) 1 (d - a) d 1 1
 less-close a d h = record { above = omega arith; below = omega arith }
 
 tiny-size : (s : Bool) (m : ℕ) (e : ℤ) → isTiny (fin s m e) ≡ true → m * up e * 2 ^ 29 ≤ 1 * down e
 unfolding isTiny absolute le
 tiny-size s m e h = at-most (m * up e * 2 ^ 29) (1 * 1 * down e) (subst T (sym h) tt)
 
-pub tiny-close : (s : Bool) (m : ℕ) (e : ℤ) → isTiny (fin s m e) ≡ true → Close (2 ^ 29 - 1) (2 ^ 29) 1 (onePlus (fin s m e) .top) (onePlus (fin s m e) .bottom) 1 1
+pub tiny-close : (s : Bool) (m : ℕ) (e : ℤ) → isTiny (fin s m e) ≡ true → WithinFactors (2 ^ 29 - 1) (2 ^ 29) 1 (onePlus (fin s m e) .top) (onePlus (fin s m e) .bottom) 1 1
 unfolding onePlus
 tiny-close false m e h = more-close (m * up e) (down e) (tiny-size false m e h)
 tiny-close true m e h = less-close (m * up e) (down e) (tiny-size true m e h)

@@ -14,7 +14,7 @@ use Rattle.floats.specs.Operations.{_⊗_}
 use Rattle.compound.specs.Special.{one}
 use Rattle.compound.specs.Whole.{squarings, power}
 use Rattle.answers.proofs.Whole.Factors.{equal, power-of-product}
-use Rattle.answers.proofs.Whole.Within.{near, full, Within, Room, within-more, times}
+use Rattle.answers.proofs.Whole.Within.{near, full, Within, InRange, within-more, times}
 
 -- what is asked of P / R: from 2^-24 to 2^64 - 2^39
 pub record Base (P R : ℕ) : Type 0 where
@@ -38,7 +38,7 @@ power-at-most a b K n k l h =
 swapped : (a b c : ℕ) → a ≤ b * c → a ≤ c * b
 swapped a b c h = omega arith
 
-pub room : {P R : ℕ} → Base P R → (n : ℕ) → n ≤ 16 → Room (P ^ n) (R ^ n)
+pub room : {P R : ℕ} → Base P R → (n : ℕ) → n ≤ 16 → InRange (P ^ n) (R ^ n)
 room {P} {R} b n l = record {
   top = one-le-pow n P (top b);
   bottom = one-le-pow n R (b .bottom);

@@ -19,10 +19,10 @@ use Rattle.compound.proofs.Tiny.{tiny-is-one}
 use Rattle.answers.specs.Exact as Exact
 use Rattle.answers.specs.Exact.{Fraction, onePlus, exact}
 use Rattle.answers.specs.Claims.{Near, answer, wholeBound}
-use Rattle.answers.proofs.Whole.Factors.{Close, turned, looser, powers}
+use Rattle.answers.proofs.Whole.Factors.{WithinFactors, turned, looser, powers}
 use Rattle.answers.proofs.Whole.Within.{Within, within-more, Reciprocal, normal, small, reciprocal}
 use Rattle.answers.proofs.Whole.Squared.{Base, room, power-within}
-use Rattle.answers.proofs.Whole.Ends.{Fine, between, around-zero, around-one}
+use Rattle.answers.proofs.Whole.Ends.{SmallEnough, between, around-zero, around-one}
 use Rattle.answers.proofs.Whole.OnePlus.{base, sum-within, tiny-close}
 use Rattle.answers.proofs.Whole.Asked.{AskedX, asked-x, AskedY, asked-y, size, size-from-1, size-to-16, cast-is, sign-is, not-rule, takes-whole, on-route}
 
@@ -31,12 +31,12 @@ one-power : (n : ℕ) → 1 ^ n ≡ 1
 one-power zero = pow-zero 1
 one-power (suc n) = pow-suc 1 n ∙ mul-one (1 ^ n) ∙ one-power n
 
-powers-of-one : {P R : ℕ} (n : ℕ) → n ≤ 16 → Close (2 ^ 29 - 1) (2 ^ 29) 1 P R 1 1 → Close (2 ^ 29 - 1) (2 ^ 29) 16 (P ^ n) (R ^ n) 1 1
+powers-of-one : {P R : ℕ} (n : ℕ) → n ≤ 16 → WithinFactors (2 ^ 29 - 1) (2 ^ 29) 1 P R 1 1 → WithinFactors (2 ^ 29 - 1) (2 ^ 29) 16 (P ^ n) (R ^ n) 1 1
 powers-of-one {P} {R} n l h =
-    looser 16 (lit≤ tt) l (subst (λ (z : ℕ). Close (2 ^ 29 - 1) (2 ^ 29) n (P ^ n) (R ^ n) z z) (one-power n) (powers n h))
+    looser 16 (lit≤ tt) l (subst (λ (z : ℕ). WithinFactors (2 ^ 29 - 1) (2 ^ 29) n (P ^ n) (R ^ n) z z) (one-power n) (powers n h))
 
 -- of y = ±n 2^d, with s for the f64 sum 1 + x
-module _ {k : ℕ} (fine : Fine k) (x : Float) (b : Base (onePlus x .top) (onePlus x .bottom)) where
+module _ {k : ℕ} (fine : SmallEnough k) (x : Float) (b : Base (onePlus x .top) (onePlus x .bottom)) where
   -- |x| above 2^-29: the power, or its reciprocal
   by-powers : (t : Bool) (n : ℕ) (d : ℤ) (s : Float) → size n d ≤ 16 → Within 1 (onePlus x .top) (onePlus x .bottom) s
       → Near k (exact x (fin t n d)) (narrowed (cond t (one ⊘ Whole.power s (size n d)) (Whole.power s (size n d))))
@@ -55,7 +55,7 @@ module _ {k : ℕ} (fine : Fine k) (x : Float) (b : Base (onePlus x .top) (onePl
       go (small a c A C v h e) = around-zero fine (Exact.inverse (onePlus x) i) a c (one ⊘ Whole.power s i) (room b i l .top) A C (looser 33 (lit≤ tt) (omega arith) v) h e
 
   -- |x| at most 2^-29: 1
-  by-one : (t : Bool) (n : ℕ) (d : ℤ) → size n d ≤ 16 → Close (2 ^ 29 - 1) (2 ^ 29) 1 (onePlus x .top) (onePlus x .bottom) 1 1 → Near k (exact x (fin t n d)) one
+  by-one : (t : Bool) (n : ℕ) (d : ℤ) → size n d ≤ 16 → WithinFactors (2 ^ 29 - 1) (2 ^ 29) 1 (onePlus x .top) (onePlus x .bottom) 1 1 → Near k (exact x (fin t n d)) one
   unfolding exact Exact.power Exact.inverse
   by-one false n d l h = around-one fine (Exact.power (onePlus x) (size n d)) (room b (size n d) l .bottom) (powers-of-one (size n d) l h)
   by-one true n d l h = around-one fine (Exact.inverse (onePlus x) (size n d)) (room b (size n d) l .top) (turned (powers-of-one (size n d) l h))
@@ -63,7 +63,7 @@ module _ {k : ℕ} (fine : Fine k) (x : Float) (b : Base (onePlus x .top) (onePl
 -- ---- the answer
 module _
     {k : ℕ}
-    (fine : Fine k)
+    (fine : SmallEnough k)
     (s : Bool)
     (m : ℕ)
     (e : ℤ)
@@ -102,7 +102,7 @@ module _
         go false h = far (toUnsigned 32 (absolute (fin t n d))) (lt (fin t n d) Special.zero) (cast-is t n d to-16) (sign-is t n d (pos-of-div-pos (down d) from-1))
 
 -- a NaN and an infinity are not asked for
-bound : (k : ℕ) (x y : Float) → T (fits binary32 x) → AskedX x → AskedY y → Fine k → Near k (exact x y) (answer x y)
+bound : (k : ℕ) (x y : Float) → T (fits binary32 x) → AskedX x → AskedY y → SmallEnough k → Near k (exact x y) (answer x y)
 unfolding lt le absolute
 bound k nan y f a b fine = absurd (a .above)
 bound k (inf true) y f a b fine = absurd (a .above)

@@ -16,7 +16,7 @@ use Rattle.floats.proofs.Laws.Overflow.{halfway, round-stays}
 use Rattle.floats.proofs.Laws.Rounding.{relative-error}
 use Rattle.compound.specs.Special.{one}
 use Rattle.compound.proofs.Tests.{second}
-use Rattle.answers.proofs.Whole.Factors.{Close, turned, joined, product, looser}
+use Rattle.answers.proofs.Whole.Factors.{WithinFactors, turned, joined, product, looser}
 
 -- one factor of f64
 abbrev pub near : ℕ
@@ -30,7 +30,7 @@ pub record Within (n A C : ℕ) (x : Float) : Type 0 where
   pub digits : ℕ
   pub exponent : ℤ
   pub is : x ≡ fin false digits exponent
-  pub close : Close near full n (digits * up exponent) (down exponent) A C
+  pub close : WithinFactors near full n (digits * up exponent) (down exponent) A C
 
 pub within-more : {n A C : ℕ} {x : Float} (m : ℕ) → n ≤ m → Within n A C x → Within m A C x
 within-more m h w = record { digits = w .digits; exponent = w .exponent; is = w .is; close = looser m (lit≤ tt) h (w .close) }
@@ -70,7 +70,7 @@ rounded a c C normal small =
     }
 
 -- of a fraction that is near to A / C
-rounded-near : {n A C : ℕ} (a c : ℕ) → 0 < c → 2 ^ 52 * c ≤ a * 2 ^ 1074 → a < halfway binary64 * c → Close near full n a c A C → Within (1 + n) A C (round binary64 false a c)
+rounded-near : {n A C : ℕ} (a c : ℕ) → 0 < c → 2 ^ 52 * c ≤ a * 2 ^ 1074 → a < halfway binary64 * c → WithinFactors near full n a c A C → Within (1 + n) A C (round binary64 false a c)
 rounded-near a c C normal small h =
     let w = rounded a c C normal small in
     record { digits = w .digits; exponent = w .exponent; is = w .is; close = joined C (w .close) h }
@@ -84,7 +84,7 @@ over a c A C i I M H P D l h k =
     let z : c * (M * I) < c * (H * i) = mul-lt-mul-of-pos-left l D in
     lt-of-mul-lt-mul-right i (omega arith)
 
-not-over : {a c A C : ℕ} → 0 < C → 0 < c → A ≤ (2 ^ 64 - 2 ^ 39) ^ 16 * C → Close near full 33 a c A C → a < halfway binary64 * c
+not-over : {a c A C : ℕ} → 0 < C → 0 < c → A ≤ (2 ^ 64 - 2 ^ 39) ^ 16 * C → WithinFactors near full 33 a c A C → a < halfway binary64 * c
 not-over {a} {c} {A} {C} P D h w = over a c A C (near ^ 33) (full ^ 33) ((2 ^ 64 - 2 ^ 39) ^ 16) (halfway binary64) P D (lit< tt) (w .above) h
 
 -- what is at least 2^-384 is in the normal range
@@ -96,18 +96,18 @@ under a c A C i I M U L P D l h k =
     let z : a * (U * (M * I)) ≤ a * (L * i) = mul-le-mul-left a l in
     le-of-mul-le-mul-right {k = i} (omega arith) D
 
-not-under : {a c A C : ℕ} → 0 < A → C ≤ A * 2 ^ 384 → Close near full 33 a c A C → 2 ^ 52 * c ≤ a * 2 ^ 1074
+not-under : {a c A C : ℕ} → 0 < A → C ≤ A * 2 ^ 384 → WithinFactors near full 33 a c A C → 2 ^ 52 * c ≤ a * 2 ^ 1074
 not-under {a} {c} {A} {C} P h w = under a c A C (near ^ 33) (full ^ 33) (2 ^ 384) (2 ^ 52) (2 ^ 1074) P (lit< tt) (lit≤ tt) (w .below) h
 
 -- ---- a product and a reciprocal
 -- a fraction between 2^-384 and (2^64 - 2^39)^16
-pub record Room (A C : ℕ) : Type 0 where
+pub record InRange (A C : ℕ) : Type 0 where
   pub top : 0 < A
   pub bottom : 0 < C
   pub at-most : A ≤ (2 ^ 64 - 2 ^ 39) ^ 16 * C
   pub at-least : C ≤ A * 2 ^ 384
 
-pub times : {n m A C B D : ℕ} {x y : Float} → n + m ≤ 33 → Room (A * B) (C * D) → Within n A C x → Within m B D y → Within (1 + (n + m)) (A * B) (C * D) (x ⊗ y)
+pub times : {n m A C B D : ℕ} {x y : Float} → n + m ≤ 33 → InRange (A * B) (C * D) → Within n A C x → Within m B D y → Within (1 + (n + m)) (A * B) (C * D) (x ⊗ y)
 unfolding mul
 times {n} {m} {A} {C} {B} {D} {x} {y} l r v w =
     let near33 = looser 33 (lit≤ tt) l (product (v .close) (w .close)) in
@@ -139,9 +139,9 @@ one-over (suc m) e h =
 -- the reciprocal x of what is near to A / C: in the normal range it is near to C / A, and else it is below 2^-1022
 pub data Reciprocal (n A C : ℕ) (x : Float) : Type 0 where
   normal : Within (1 + n) C A x → Reciprocal n A C x
-  small : (a c : ℕ) → 0 < a → 0 < c → Close near full n a c A C → c * 2 ^ 1074 < 2 ^ 52 * a → x ≡ round binary64 false c a → Reciprocal n A C x
+  small : (a c : ℕ) → 0 < a → 0 < c → WithinFactors near full n a c A C → c * 2 ^ 1074 < 2 ^ 52 * a → x ≡ round binary64 false c a → Reciprocal n A C x
 
-pub reciprocal : {n A C : ℕ} {x : Float} → n ≤ 33 → Room A C → Within n A C x → Reciprocal n A C (one ⊘ x)
+pub reciprocal : {n A C : ℕ} {x : Float} → n ≤ 33 → InRange A C → Within n A C x → Reciprocal n A C (one ⊘ x)
 reciprocal {n} {A} {C} {x} l r w = go (leb (2 ^ 52 * a) (c * 2 ^ 1074)) (leb→le (2 ^ 52 * a) (c * 2 ^ 1074)) (nleb→lt (2 ^ 52 * a) (c * 2 ^ 1074))
   where
     a : ℕ
