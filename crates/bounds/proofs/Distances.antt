@@ -1,6 +1,6 @@
 -- How far two values can be from each other, on a scale: a sum is as far from one of its terms as the other term is large, and a rounding
--- (`add-apart`); `ddFmla` is as far from c as the product is large, and its roundings (`fmla-apart`). From a distance to a known value a size follows from
--- below (`not-less`, `not-below`). Assumes nothing.
+-- (`add-apart`); `ddFmla` is as far from c as the product is large, and its roundings (`fmla-apart`). From a distance to a known value a size follows, from
+-- below and from above (`not-less`, `not-below`, `not-more`). Assumes nothing.
 use mathlib.Core.Path.{_≡_, subst}
 use mathlib.Core.Logic.{_⊎_, inl, inr}
 use Prim.Native.Nat.{ℕ, _+_, _*_, _/_, _^_, _≤_, _<_}
@@ -98,6 +98,12 @@ not-less {μ} {K} {x} {y} a = go (plus x) (less x) (plus y) (less y) (K * μ) (o
     go : (p n q m d : ℕ) → (q ≡ 0) ⊎ (m ≡ 0) → p + m ≤ n + q + d → q + n ≤ m + p + d → q + m ≤ p + n + d
     go p n q m d (inl e) g h = omega arith
     go p n q m d (inr e) g h = omega arith
+
+-- and no larger but for it
+pub not-more : {μ K : ℕ} {x y : Float} → Apart μ K x y → mag x ≤ mag y + K * μ
+not-more {μ} {K} {x} {y} a =
+    let turned : Apart μ K y x = record { over = a .under; under = a .over } in
+    not-less turned
 
 -- and above 0 where y is further above it than that
 pub not-below : {μ K : ℕ} {x y : Float} → Apart μ K x y → less y ≡ 0 → K * μ < plus y → less x ≡ 0

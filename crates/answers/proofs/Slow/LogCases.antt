@@ -249,7 +249,7 @@ module _ (x : Float) (v : ℕ) (is-v : v ≡ toBits binary64 (one ⊕ x)) (low :
         let low : Bound σ (2 ^ 54 + 2 ^ 10) (onePlus x .lo ⊗ s) = subst (Bound σ (2 ^ 54 + 2 ^ 10)) (sym (ap (λ (k : Float). onePlus x .lo ⊗ k) s-is ∙ mul-one binary64 (onePlus x .lo) (parted .lo-number .held))) (parted .near-low σ scale (two-parts q some) u-positive) in
         let unity : Bound S (2 ^ 53) r = subst (Bound S (2 ^ 53)) (sym r-is) (positive-bound one-is-1) in
         let f = fast-bounds itself (at (2 ^ 54 + 2 ^ 11) (mul-bound (unit-left scale) unity low tt tt) tt) tt in
-        let own : Bounds σ (5 * 2 ^ 53) (2 ^ 10) z' = record { hi = at (5 * 2 ^ 53) (f .hi) tt; lo = at (2 ^ 10) (f .lo) tt } in
+        let own : Bounds σ (3 * 2 ^ 53 + 2 ^ 20) (2 ^ 10) z' = record { hi = at (3 * 2 ^ 53 + 2 ^ 20) (f .hi) tt; lo = at (2 ^ 10) (f .lo) tt } in
         joined (near z (off .number) q (off .grid) some z-size (e-nil .0) (e-nil .1) (pair .hi-number) (pair .hi-zero) (pair .lo-number) (pair .lo-zero) z'-size own)
 
     near-cases : Logs (compoundfLog2p1Fast x) (compoundfLog2p1Accurate x) ⊎ Nil (compoundfLog2p1Fast x)

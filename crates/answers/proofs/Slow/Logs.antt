@@ -1,21 +1,22 @@
--- The two logarithms beside each other: wherever the fast one is l, the accurate one is at most 72 × |l| in its hi and 2^-18 × |l| in its lo (`Logs`). Three cases:
+-- The two logarithms beside each other: wherever the fast one is l, the accurate one is at most 6.5 × |l| in its hi and 2^-18 × |l| in its lo (`Logs`). Three cases:
 -- the exponent e of 1 + x is not 0 (`far-whole`); e is 0 and the inverse is not 1 (`far-part`); e is 0 and the inverse is 1 (`near`), where z is 1 + x less 1 and
 -- both logarithms are on the scale of z. Assumes nothing.
 use mathlib.Core.Path.{_≡_, refl, sym, ap, _∙_, subst}
-use Prim.Native.Nat.{ℕ, zero, _+_, _-_, _*_, _^_, _≤_, _<_}
+use Prim.Native.Nat.{ℕ, zero, _+_, _-_, _*_, _/_, _^_, _≤_, _<_}
 use native.Mathlib.Nat.{le-refl, le-trans, le-of-eq, mul-assoc, mul-right-comm, mul-le-mul-right, mul-le-mul, mul-pos, zero-mul, one-mul, le-add-right, le-of-mul-le-mul-right}
 use native.Mathlib.Omega.{arith}
-use lib.Dec.{lit≤}
+use lib.Dec.{lit≤, lit<}
 use lib.Pow.{pow-pos}
 use lib.Ieee.{Float}
 use Rattle.floats.specs.Operations.{_⊕_, _⊗_}
 use Rattle.double_double.specs.declared.DoubleDouble.{DoubleDouble}
+use Rattle.double_double.specs.DoubleDouble.{fromExactAdd}
 use Rattle.compound.specs.Fast.{log2p1Polyeval1}
 use Rattle.compound.specs.Slow.{log2Poly2, sumOfLogs}
 use Rattle.bounds.proofs.Values.{perOne, plus, less, mag, Number}
 use Rattle.bounds.proofs.Operation.{mul-near}
 use Rattle.bounds.proofs.Scales.{S, S-pos, one-is, unit, unit-right, Scale, Bound, Bounds, at, onto, add-bound, mul-bound, mul-limit}
-use Rattle.bounds.proofs.Distances.{apart-at, apart-through, add-apart, add-apart-right, not-less}
+use Rattle.bounds.proofs.Distances.{not-more, apart-at, apart-through, add-apart, add-apart-right, not-less}
 use Rattle.bounds.proofs.Compared.{positive-bound}
 use Rattle.answers.proofs.Slow.LogSize.{factor, fast-is, fast-factor, poly-size, logs-size}
 
@@ -24,7 +25,15 @@ pub record Logs (l : Float) (L : DoubleDouble) : Type 0 where
   pub scale : Scale μ
   pub size : 2 ^ 53 * μ ≤ mag l
   pub above : Bound S (2 ^ 62) l
-  pub accurate : Bounds μ (72 * 2 ^ 53) (2 ^ 35) L
+  pub accurate : Bounds μ (13 * 2 ^ 52) (2 ^ 35) L
+
+large-scale : 2 ^ 60 ≤ S
+unfolding S
+large-scale = lit≤ tt
+
+on-scale-1 : 33 * 2 ^ 47 * S ≤ 2 ^ 1210
+unfolding S
+on-scale-1 = lit≤ tt
 
 -- both parts on another scale
 onto-both : {μ K k : ℕ} {x : DoubleDouble} (ν M m : ℕ) → Scale ν → Bounds μ K k x → K * μ ≤ M * ν → k * μ ≤ m * ν → Bounds ν M m x
@@ -35,14 +44,15 @@ module _ (E : ℕ) (least : 1 ≤ E) (most : E ≤ 150) where
   ν : ℕ
   ν = E * S
 
+  -- three eighths of it
   μ : ℕ
-  μ = E * 2 ^ 1019
+  μ = E * (3 * 2 ^ 1018)
 
-  quarter : ν ≡ 4 * μ
+  eighths : 3 * ν ≡ 8 * μ
   unfolding ν μ S
-  quarter = go E (2 ^ 1019)
+  eighths = go E (2 ^ 1018)
     where
-      go : (e k : ℕ) → e * (4 * k) ≡ 4 * (e * k)
+      go : (e k : ℕ) → 3 * (e * (8 * k)) ≡ 8 * (e * (3 * k))
       go e k = omega arith
 
   wide : Scale ν
@@ -51,7 +61,7 @@ module _ (E : ℕ) (least : 1 ≤ E) (most : E ≤ 150) where
 
   narrow : Scale μ
   unfolding μ
-  narrow = record { positive = mul-pos least (pow-pos 1019); bounded = le-trans (mul-le-mul-right (2 ^ 1019) most) (lit≤ tt) }
+  narrow = record { positive = mul-pos least (lit< tt); bounded = le-trans (mul-le-mul-right (3 * 2 ^ 1018) most) (lit≤ tt) }
 
   -- what is on the scale of 1 is on that of E
   S-le : S ≤ ν
@@ -68,13 +78,25 @@ module _ (E : ℕ) (least : 1 ≤ E) (most : E ≤ 150) where
       go : (e s : ℕ) → e * (s * 2 ^ 53) ≡ 2 ^ 53 * (e * s)
       go e s = omega arith
 
-  -- a number on the scale of E, on that of 1, and on a quarter of its own
+  -- a number on the scale of E, on that of 1, and on three eighths of its own
   on-one : (K M : ℕ) → K * 150 ≤ M → K * ν ≤ M * S
   unfolding ν
   on-one K M h = le-trans (mul-le-mul (le-refl K) (mul-le-mul-right S most)) (le-trans (le-of-eq (sym (mul-assoc K 150 S))) (mul-le-mul-right S h))
 
-  quartered : (K M : ℕ) → K * 4 ≤ M → K * ν ≤ M * μ
-  quartered K M h = le-trans (le-of-eq (ap (λ (k : ℕ). K * k) quarter ∙ sym (mul-assoc K 4 μ))) (mul-le-mul-right μ h)
+  on-eighths : (K M : ℕ) → K * 8 ≤ M * 3 → K * ν ≤ M * μ
+  on-eighths K M h = thirds (K * ν) (M * μ) (le-trans (le-of-eq (left K ν ∙ ap (λ (k : ℕ). K * k) eighths ∙ right K μ)) (le-trans (mul-le-mul-right μ h) (le-of-eq (turned M μ))))
+    where
+      left : (K v : ℕ) → 3 * (K * v) ≡ K * (3 * v)
+      left K v = omega arith
+
+      right : (K u : ℕ) → K * (8 * u) ≡ K * 8 * u
+      right K u = omega arith
+
+      turned : (M u : ℕ) → M * 3 * u ≡ 3 * (M * u)
+      turned M u = omega arith
+
+      thirds : (x y : ℕ) → 3 * x ≤ 3 * y → x ≤ y
+      thirds x y h = omega arith
 
   pub far-whole : {e w : Float} {a b : DoubleDouble} → Number e → mag e ≡ E * perOne → Bound S (35 * 2 ^ 47) w → Bounds S (33 * 2 ^ 47) 1 a → Bounds S (2 ^ 48 + 2 ^ 38) (2 ^ 27) b
       → Logs (e ⊕ w) (sumOfLogs e a b)
@@ -86,52 +108,91 @@ module _ (E : ℕ) (least : 1 ≤ E) (most : E ≤ 150) where
       record {
         μ = μ;
         scale = narrow;
-        size = from-e (mag e) (mag (e ⊕ w)) μ (m ∙ e-size ∙ ap (λ (k : ℕ). 2 ^ 53 * k) quarter) (subst (λ (k : ℕ). mag e ≤ mag (e ⊕ w) + 39 * 2 ^ 47 * k) quarter (not-less off));
+        size = from-e (mag e) (mag (e ⊕ w)) ν μ eighths (m ∙ e-size) (not-less off);
         above = onto S (2 ^ 62) unit sum (on-one _ (2 ^ 62) (lit≤ tt));
-        accurate = onto-both μ (72 * 2 ^ 53) (2 ^ 35) narrow logs (quartered _ (72 * 2 ^ 53) (lit≤ tt)) (quartered _ (2 ^ 35) (lit≤ tt));
+        accurate = onto-both μ (13 * 2 ^ 52) (2 ^ 35) narrow logs (on-eighths _ (13 * 2 ^ 52) (lit≤ tt)) (on-eighths _ (2 ^ 35) (lit≤ tt));
       }
     where
-      from-e : (e l k : ℕ) → e ≡ 2 ^ 53 * (4 * k) → e ≤ l + 39 * 2 ^ 47 * (4 * k) → 2 ^ 53 * k ≤ l
-      from-e e l k h g = omega arith
+      from-e : (e l v u : ℕ) → 3 * v ≡ 8 * u → e ≡ 2 ^ 53 * v → e ≤ l + 39 * 2 ^ 47 * v → 2 ^ 53 * u ≤ l
+      from-e e l v u k h g = omega arith
 
 -- ---- e is 0, and the inverse is not 1
 -- a value of size 0 on any scale
 pub nil-bound : {x : Float} (μ : ℕ) → Scale μ → Number x → mag x ≡ 0 → Bound μ 0 x
 nil-bound μ s n e = record { scale = s; number = n; size = le-trans (le-of-eq e) (le-of-eq (sym (zero-mul μ))) }
 
--- 2^53 of these are 1/128
-part : ℕ
-part = 2 ^ 1014
+-- the logarithm is the inverse's, |a|, but for 48 × 2^42 and little more; the scale is what is left of it
+module _ {e p : Float} {a b : DoubleDouble} (n : Number e) (m : mag e ≡ 0) (r : Bound S (47 * 2 ^ 42 + 2 ^ 36) p) (least : 35 * 2 ^ 43 * S ≤ mag (a .hi)) (q : Bounds S (33 * 2 ^ 47) 1 a)
+    (l : Bounds S (2 ^ 48 + 2 ^ 38) (2 ^ 27) b) where
+  left : ℕ
+  left = mag (a .hi) - (4 + 48 * 2 ^ 42) * S
 
-part-scale : Scale part
-unfolding part
-part-scale = record { positive = pow-pos 1014; bounded = lit≤ tt }
+  τ : ℕ
+  τ = left / 2 ^ 53
 
-on-part-scale : (K M : ℕ) → K * 128 ≤ M → K * S ≤ M * part
-unfolding part S
-on-part-scale K M h = le-trans (le-of-eq (sym (mul-assoc K 128 (2 ^ 1014)))) (mul-le-mul-right (2 ^ 1014) h)
+  nil : Bound S 0 e
+  nil = nil-bound S unit n m
 
-part-scale-is : 2 ^ 53 * part ≡ 2 ^ 46 * S
-unfolding part S
-part-scale-is = refl
+  w : Bound S (35 * 2 ^ 47) (a .hi ⊕ p)
+  w = at (35 * 2 ^ 47) (add-bound (q .hi) r tt) tt
 
-pub far-part : {e p : Float} {a b : DoubleDouble} → Number e → mag e ≡ 0 → Bound S (47 * 2 ^ 42 + 2 ^ 36) p → 35 * 2 ^ 43 * S ≤ mag (a .hi) → Bounds S (33 * 2 ^ 47) 1 a → Bounds S (2 ^ 48 + 2 ^ 38) (2 ^ 27) b
-    → Logs (e ⊕ (a .hi ⊕ p)) (sumOfLogs e a b)
-far-part {e} {p} {a} {b} n m r least q l =
-    let zero = nil-bound S unit n m in
-    let w = add-bound (q .hi) r tt in
-    let logs = logs-size zero q l tt in
-    let off = apart-through (apart-at 4 (add-apart-right zero w tt) tt) (apart-at (48 * 2 ^ 42) (add-apart (q .hi) r tt) tt) in
-    record {
-      μ = part;
-      scale = part-scale;
-      size = le-trans (le-of-eq part-scale-is) (from-a (mag (a .hi)) (mag (e ⊕ (a .hi ⊕ p))) S least (not-less off));
-      above = at (2 ^ 62) (add-bound zero w tt) tt;
-      accurate = onto-both part (72 * 2 ^ 53) (2 ^ 35) part-scale logs (on-part-scale _ (72 * 2 ^ 53) (lit≤ tt)) (on-part-scale _ (2 ^ 35) (lit≤ tt));
-    }
-  where
-    from-a : (a l s : ℕ) → 35 * 2 ^ 43 * s ≤ a → a ≤ l + (4 + 48 * 2 ^ 42) * s → 2 ^ 46 * s ≤ l
-    from-a a l s h g = omega arith
+  off : mag (a .hi) ≤ mag (e ⊕ (a .hi ⊕ p)) + (4 + 48 * 2 ^ 42) * S
+  off = not-less (apart-through (apart-at 4 (add-apart-right nil w tt) tt) (apart-at (48 * 2 ^ 42) (add-apart (q .hi) r tt) tt))
+
+  -- the accurate one is |a| too, but for what the polynomial gives
+  near-a : mag (sumOfLogs e a b .hi) ≤ mag (a .hi) + (2 ^ 48 + 2 ^ 39) * S
+  unfolding sumOfLogs fromExactAdd
+  near-a = not-more (apart-at (2 ^ 48 + 2 ^ 39) (apart-through (add-apart (add-bound nil (q .hi) tt) (l .hi) tt) (add-apart-right nil (q .hi) tt)) tt)
+
+  τ-scale : Scale τ
+  unfolding τ left
+  τ-scale = record {
+    positive = some (mag (a .hi)) S (le-trans (lit≤ tt) large-scale) least;
+    bounded = le-trans (small (mag (a .hi)) S) (le-trans (q .hi .size) on-scale-1);
+  }
+    where
+      some : (a s : ℕ) → 2 ^ 53 ≤ s → 35 * 2 ^ 43 * s ≤ a → 0 < (a - (4 + 48 * 2 ^ 42) * s) / 2 ^ 53
+      some a s g h = omega arith
+
+      small : (a s : ℕ) → (a - (4 + 48 * 2 ^ 42) * s) / 2 ^ 53 ≤ a
+      small a s = omega arith
+
+  pub far-part : Logs (e ⊕ (a .hi ⊕ p)) (sumOfLogs e a b)
+  unfolding τ left
+  far-part =
+      let logs = logs-size nil q l tt in
+      record {
+        μ = τ;
+        scale = τ-scale;
+        size = size-of (mag (a .hi)) (mag (e ⊕ (a .hi ⊕ p))) S off;
+        above = at (2 ^ 62) (add-bound nil w tt) tt;
+        accurate = record {
+          hi = record { scale = τ-scale; number = logs .hi .number; size = hi-of (mag (a .hi)) (mag (sumOfLogs e a b .hi)) S large-scale least near-a };
+          lo = record { scale = τ-scale; number = logs .lo .number; size = le-trans (logs .lo .size) (le-trans (mul-le-mul-right S (lit≤ tt)) (lo-of (mag (a .hi)) S large-scale least)) };
+        };
+      }
+    where
+      size-of : (a l s : ℕ) → a ≤ l + (4 + 48 * 2 ^ 42) * s → 2 ^ 53 * ((a - (4 + 48 * 2 ^ 42) * s) / 2 ^ 53) ≤ l
+      size-of a l s h = omega arith
+
+      -- 13/2 of what is left of |a|
+      hi-of : (a h s : ℕ) → 2 ^ 60 ≤ s → 35 * 2 ^ 43 * s ≤ a → h ≤ a + (2 ^ 48 + 2 ^ 39) * s → h ≤ 13 * 2 ^ 52 * ((a - (4 + 48 * 2 ^ 42) * s) / 2 ^ 53)
+      hi-of a h s g l k = over h (a - (4 + 48 * 2 ^ 42) * s) (enough a h s g l k)
+        where
+          over : (h n : ℕ) → 2 * h + 13 * 2 ^ 53 ≤ 13 * n → h ≤ 13 * 2 ^ 52 * (n / 2 ^ 53)
+          over h n k = omega arith
+
+          enough : (a h s : ℕ) → 2 ^ 60 ≤ s → 35 * 2 ^ 43 * s ≤ a → h ≤ a + (2 ^ 48 + 2 ^ 39) * s → 2 * h + 13 * 2 ^ 53 ≤ 13 * (a - (4 + 48 * 2 ^ 42) * s)
+          enough a h s g l k = omega arith
+
+      lo-of : (a s : ℕ) → 2 ^ 60 ≤ s → 35 * 2 ^ 43 * s ≤ a → 2 ^ 28 * s ≤ 2 ^ 35 * ((a - (4 + 48 * 2 ^ 42) * s) / 2 ^ 53)
+      lo-of a s g l = over s (a - (4 + 48 * 2 ^ 42) * s) (enough a s g l)
+        where
+          over : (s n : ℕ) → 2 ^ 46 * s + 2 ^ 53 ≤ n → 2 ^ 28 * s ≤ 2 ^ 35 * (n / 2 ^ 53)
+          over s n h = omega arith
+
+          enough : (a s : ℕ) → 2 ^ 60 ≤ s → 35 * 2 ^ 43 * s ≤ a → 2 ^ 46 * s + 2 ^ 53 ≤ a - (4 + 48 * 2 ^ 42) * s
+          enough a s g l = omega arith
 
 -- ---- e is 0, and the inverse is 1: all on the scale of z, which is q × 2^-53 in size
 module _ (z : Float) (n : Number z) (q : ℕ) (size : mag z ≡ q * S) (some : 0 < q) (b : Bound S (2 ^ 47 + 2 ^ 33) z) where
@@ -202,7 +263,7 @@ module _ (z : Float) (n : Number z) (q : ℕ) (size : mag z ≡ q * S) (some : 0
           third : (m k : ℕ) → 0 < k → 91 * k * (2 ^ 53 - 1) ≤ m * 2 ^ 6 + 2 ^ 5 → 91 * 2 ^ 47 * k ≤ m + 4 * k
           third m k k0 h = omega arith
 
-  pub near : {e : Float} {a z' : DoubleDouble} → Number e → mag e ≡ 0 → Number (a .hi) → mag (a .hi) ≡ 0 → Number (a .lo) → mag (a .lo) ≡ 0 → Bounds S (2 ^ 47 + 2 ^ 36) (2 ^ 12) z' → Bounds (q * 2 ^ 968) (5 * 2 ^ 53) (2 ^ 10) z'
+  pub near : {e : Float} {a z' : DoubleDouble} → Number e → mag e ≡ 0 → Number (a .hi) → mag (a .hi) ≡ 0 → Number (a .lo) → mag (a .lo) ≡ 0 → Bounds S (2 ^ 47 + 2 ^ 36) (2 ^ 12) z' → Bounds (q * 2 ^ 968) (3 * 2 ^ 53 + 2 ^ 20) (2 ^ 10) z'
       → Logs (e ⊕ (a .hi ⊕ log2p1Polyeval1 z)) (sumOfLogs e a (log2Poly2 z'))
   unfolding p σ
   near {e} {a} {z'} ne me nh mh nl ml bounds own =
@@ -217,7 +278,7 @@ module _ (z : Float) (n : Number z) (q : ℕ) (size : mag z ≡ q * S) (some : 0
         scale = z-scale;
         size = from-p (mag (z ⊗ factor z)) (mag (e ⊕ (a .hi ⊕ z ⊗ factor z))) σ p-least (not-less off);
         above = onto S (2 ^ 62) unit l (mul-le-mul (lit≤ tt) σ-le);
-        accurate = record { hi = at (72 * 2 ^ 53) (logs .hi) tt; lo = at (2 ^ 35) (logs .lo) tt };
+        accurate = record { hi = at (13 * 2 ^ 52) (logs .hi) tt; lo = at (2 ^ 35) (logs .lo) tt };
       })
     where
       from-p : (p l k : ℕ) → 91 * 2 ^ 47 * k ≤ p + 4 * k → p ≤ l + (8 + 8) * k → 2 ^ 53 * k ≤ l

@@ -217,11 +217,11 @@ module _ (l y : Float) (L : DoubleDouble) (logs : Logs l L) (Y : Number y) (y-mo
           together : (s : ℕ) → 151 * (s * s) + s * s ≡ 152 * (s * s)
           together s = omega arith
 
-  pub exponent-bounds : Bounds (152 * S) (productK (72 * 2 ^ 53) (2 ^ 53)) (quickF64LoK (72 * 2 ^ 53) (2 ^ 35) (2 ^ 53)) (quickMultF64 L y)
+  pub exponent-bounds : Bounds (152 * S) (productK (13 * 2 ^ 52) (2 ^ 53)) (quickF64LoK (13 * 2 ^ 52) (2 ^ 35) (2 ^ 53)) (quickMultF64 L y)
   exponent-bounds = quick-f64-bounds through (logs .accurate) y-own tt
 
   pub second-part : Bound S (2 ^ 45) (quickMultF64 L y .lo)
-  second-part = onto S (2 ^ 45) unit (exponent-bounds .lo) (le-trans (le-of-eq (sym (mul-assoc (quickF64LoK (72 * 2 ^ 53) (2 ^ 35) (2 ^ 53)) 152 S))) (mul-le-mul-right S (lit≤ tt)))
+  second-part = onto S (2 ^ 45) unit (exponent-bounds .lo) (le-trans (le-of-eq (sym (mul-assoc (quickF64LoK (13 * 2 ^ 52) (2 ^ 35) (2 ^ 53)) 152 S))) (mul-le-mul-right S (lit≤ tt)))
 
 -- ---- 2 to that power
 positive-clear : {a b : ℕ} {x : Float} → Positive a b x → 0 < a → T (clear x)
