@@ -107,6 +107,16 @@ size-in-units b (fin s m e) t h = (
       (le-of-mul-le-mul-right (le-trans (le-of-eq (sym (in-units binary64 s m e t))) (le-trans (mul-le-mul-right (2 ^ 1074) h) (le-of-eq (mul-right-comm b (down e) (2 ^ 1074))))) (down-pos e)),
 )
 
+pub units-in-size : (b : ℕ) (x : Float) → Number x → mag x ≤ b * perOne → SizeAtMost b x
+unfolding perOne
+units-in-size b nan n h = absurd (n .plain)
+units-in-size b (inf s) n h = absurd (n .plain)
+units-in-size b (fin s m e) n h =
+    le-of-mul-le-mul-right
+    (le-trans (le-of-eq (in-units binary64 s m e (n .held)))
+    (le-trans (mul-le-mul-right (down e) (le-trans (le-of-eq (sym (mag-of s (m * 2 ^ exponent 1074 e)))) h)) (le-of-eq (mul-right-comm b (2 ^ 1074) (down e)))))
+    (pow-pos 1074)
+
 -- ---- from a to b on the scale of 1
 pub record Positive (a b : ℕ) (x : Float) : Type 0 where
   pub number : Number x

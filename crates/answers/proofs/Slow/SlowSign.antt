@@ -1,14 +1,16 @@
--- The slow path gives a number whose sign is clear (`slow-clear`). Its two logarithms are on one scale, so that where the fast one times y is below 150 in size, the
--- accurate one times y has a second part below 2^-8, and the end of the path is as `ExpSign` has it. Assumes nothing.
+-- The slow path gives a number whose sign is clear (`slow-clear`). Its two logarithms are on one scale, so that where the fast one times y is at most 150 in size, the
+-- accurate one times y is below 1000 and has a second part below 2^-8, and the end of the path is as `ExpSign` has it. So no index and no k is cut (`slow-index`,
+-- `slow-k`). Assumes nothing.
 use mathlib.Core.Path.{_≡_, refl, sym, ap, ap₂, _∙_, subst}
 use mathlib.Core.Logic.{_⊎_, inl, inr}
 use mathlib.Core.Bool.{Bool, true, false, not, cond, true≢false}
 use Prim.Native.Nat.{ℕ, zero, _+_, _-_, _*_, _/_, _%_, _^_, _≤_, _<_, zero-le}
-use native.Mathlib.Nat.{le-refl, le-trans, le-of-eq, le-of-lt, lt-of-lt-of-le, le-of-mul-le-mul-right, mul-assoc, mul-comm, mul-le-mul, mul-le-mul-right, mul-pos, zero-mul, one-mul, zero-add, add-zero, add-le-add, not-le-of-lt}
+use native.Mathlib.Nat.{le-refl, le-trans, le-of-eq, le-of-lt, lt-of-lt-of-le, le-of-mul-le-mul-right, mul-assoc, mul-comm, mul-le-mul, mul-le-mul-right, mul-pos, zero-mul, one-mul, zero-add, add-zero, mul-one, add-le-add, not-le-of-lt}
 use native.Mathlib.Omega.{arith}
-use lib.Dec.{T, leb, lit≤, lit<}
+use borrow.Author.Tests.{le-ltb}
+use lib.Dec.{T, leb, ltb, lit≤, lit<}
 use lib.IntN.{pos, negsuc}
-use lib.Ieee.{Float, nan, inf, fin, binary32, binary64, up, down, unlike, size, fits, toBits, ofBits, add, mul, lt, le, eq, isNan}
+use lib.Ieee.{Float, nan, inf, fin, binary32, binary64, up, down, unlike, size, fits, toBits, ofBits, add, mul, lt, le, eq, isNan, toSigned}
 use lib.Ieee.Fits.{and-r, add-fits, sub-fits, mul-fits}
 use lib.Ieee.Scale.{finite}
 use Rattle.floats.specs.Operations.{_⊕_, _⊖_, _⊗_, f64}
@@ -16,7 +18,7 @@ use Rattle.floats.specs.Narrowing.{narrowed, nearestWhole}
 use Rattle.floats.specs.OnBits.{absolute}
 use Rattle.floats.proofs.Laws.Narrow.{narrowed-same}
 use Rattle.floats.proofs.Laws.Order.{clear, or-l}
-use Rattle.floats.proofs.Laws.Sums.{add-turned, whole-distance}
+use Rattle.floats.proofs.Laws.Sums.{add-turned, whole-distance, SizeAtMost, whole-at-most}
 use Rattle.floats.proofs.Laws.Place.{place}
 use Rattle.floats.proofs.Laws.Units.{exponent, fits-signed, bits-of-value, round-number}
 use Rattle.double_double.specs.declared.DoubleDouble.{DoubleDouble}
@@ -24,15 +26,16 @@ use Rattle.double_double.specs.DoubleDouble.{fromExactAdd, quickMultF64}
 use Rattle.compound.specs.Special as Special
 use Rattle.compound.specs.Special.{one, minusOne}
 use Rattle.compound.specs.Fast.{compoundfLog2p1Fast, powerIndex}
-use Rattle.compound.specs.Slow.{onePlus, compoundfLog2p1Accurate, isNearOne, exp2Away, exp2Accurate, compoundfAccurate}
+use Rattle.compound.specs.Slow.{clampedK, onePlus, compoundfLog2p1Accurate, isNearOne, exp2Away, exp2Accurate, compoundfAccurate}
 use Rattle.compound.specs.Route.{Tabled}
 use Rattle.compound.proofs.Index.{between-finite}
 use Rattle.compound.proofs.Scaled.{sum-clear, one-plus-bits}
+use Rattle.compound.proofs.Tests.{second}
 use Rattle.bounds.proofs.Values.{perOne, perOne-pos, plus, less, mag, mag-of, one-side, Number}
 use Rattle.bounds.proofs.Operation.{mul-near, nothing}
 use Rattle.bounds.proofs.Sums.{sides}
 use Rattle.bounds.proofs.Scales.{S, S-pos, one-is, unit, unit-left, Scale, ProductScale, Bound, Bounds, at, onto, mul-bound, mul-limit, quick-f64-bounds, productK, quickF64LoK, tested}
-use Rattle.bounds.proofs.Compared.{Positive, positive-add, le-units, le-of-units, gt-of-not-le}
+use Rattle.bounds.proofs.Compared.{Positive, positive-add, le-units, le-of-units, gt-of-not-le, units-in-size}
 use Rattle.answers.proofs.Slow.ExpSign.{index-inside, away-clear}
 use Rattle.answers.proofs.Slow.LogCases.{Nil, parted-logs}
 use Rattle.answers.proofs.Slow.Logs.{Logs}
@@ -220,6 +223,14 @@ module _ (l y : Float) (L : DoubleDouble) (logs : Logs l L) (Y : Number y) (y-mo
   pub exponent-bounds : Bounds (152 * S) (productK (13 * 2 ^ 52) (2 ^ 53)) (quickF64LoK (13 * 2 ^ 52) (2 ^ 35) (2 ^ 53)) (quickMultF64 L y)
   exponent-bounds = quick-f64-bounds through (logs .accurate) y-own tt
 
+  pub first-part : mag (quickMultF64 L y .hi) ≤ 1000 * perOne
+  first-part =
+      le-trans (exponent-bounds .hi .size)
+      (le-trans (le-of-eq (sym (mul-assoc (productK (13 * 2 ^ 52) (2 ^ 53)) 152 S))) (le-trans (mul-le-mul-right S (lit≤ tt)) (le-of-eq (go S ∙ ap (λ (k : ℕ). 1000 * k) (sym one-is)))))
+    where
+      go : (s : ℕ) → 1000 * 2 ^ 53 * s ≡ 1000 * (s * 2 ^ 53)
+      go s = omega arith
+
   pub second-part : Bound S (2 ^ 45) (quickMultF64 L y .lo)
   second-part = onto S (2 ^ 45) unit (exponent-bounds .lo) (le-trans (le-of-eq (sym (mul-assoc (quickF64LoK (13 * 2 ^ 52) (2 ^ 35) (2 ^ 53)) 152 S))) (mul-le-mul-right S (lit≤ tt)))
 
@@ -322,9 +333,21 @@ one-plus-f32 nan p h = absurd p
 one-plus-f32 (inf s) p h = absurd p
 one-plus-f32 (fin s m e) p h = sum-clear binary32 s m e h
 
+-- a k of at most 1000 in size is not cut
+not-over : (a d : ℕ) → a ≤ 1000 * d → ltb (1000 * d) (a * 1) ≡ false
+not-over a d h = le-ltb (1000 * d) (a * 1) (le-trans (le-of-eq (mul-one a)) h)
+
+unclamped : (k : Float) → SizeAtMost 1000 k → toSigned 63 k ≡ clampedK k
+unfolding clampedK lt
+unclamped nan h = absurd h
+unclamped (inf s) h = absurd h
+unclamped (fin true m e) h = second (ltb (1000 * down e) (m * up e * 1)) (negsuc 999) (toSigned 63 (fin true m e)) (not-over (m * up e) (down e) h)
+unclamped (fin false m e) h = second (ltb (1000 * down e) (m * up e * 1)) (pos 1000) (toSigned 63 (fin false m e)) (not-over (m * up e) (down e) h)
+
 -- the exponent of the slow path, for every pair that takes it
 record Exponent (t : DoubleDouble) : Type 0 where
   number : Number (t .hi)
+  first : mag (t .hi) ≤ 1000 * perOne
   second : Bound S (2 ^ 45) (t .lo)
 
 module _ (x y : Float) (tabled : Tabled x y) (low : le (compoundfLog2p1Fast x ⊗ y) (fin true 75 (pos 1)) ≡ false) (high : lt (compoundfLog2p1Fast x ⊗ y) (fin false 1 (pos 7)) ≡ true)
@@ -340,6 +363,7 @@ module _ (x y : Float) (tabled : Tabled x y) (low : le (compoundfLog2p1Fast x �
           let t = t-number (compoundfLog2p1Fast x ⊗ y) (mul-fits binary64 (compoundfLog2p1Fast x) y) low high .1 in
           record {
             number = exponent-bounds (compoundfLog2p1Fast x) y (compoundfLog2p1Accurate x) logs (Y .0) (Y .1) t .hi .number;
+            first = first-part (compoundfLog2p1Fast x) y (compoundfLog2p1Accurate x) logs (Y .0) (Y .1) t;
             second = second-part (compoundfLog2p1Fast x) y (compoundfLog2p1Accurate x) logs (Y .0) (Y .1) t;
           }
       go (inr nil) = absurd (true≢false (sym (ap (λ (n : ℕ). leb n 0x3e6715476ba97f14) (nil-bits (compoundfLog2p1Fast x) y nil (Y .0))) ∙ apart))
@@ -349,6 +373,12 @@ module _ (x y : Float) (tabled : Tabled x y) (low : le (compoundfLog2p1Fast x �
   slow-index =
       let t = quickMultF64 (compoundfLog2p1Accurate x) y in
       index-inside t (nearestWhole (t .hi)) (distance (t .hi) (slow-exponent .number)) (slow-exponent .second)
+
+  -- and k is from -1000 to 1000: none is cut
+  pub slow-k : let k = nearestWhole (quickMultF64 (compoundfLog2p1Accurate x) y .hi) in toSigned 63 k ≡ clampedK k
+  slow-k =
+      let h = quickMultF64 (compoundfLog2p1Accurate x) y .hi in
+      unclamped (nearestWhole h) (whole-at-most h (slow-exponent .number .held) 1000 (units-in-size 1000 h (slow-exponent .number) (slow-exponent .first)))
 
   power-clear : T (clear (exp2Accurate (quickMultF64 (compoundfLog2p1Accurate x) y)))
   power-clear = exp2-clear (quickMultF64 (compoundfLog2p1Accurate x) y) (slow-exponent .number) (slow-exponent .second)
