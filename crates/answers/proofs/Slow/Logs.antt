@@ -1,7 +1,7 @@
 -- The two logarithms beside each other: wherever the fast one is l, the accurate one is at most 6.5 × |l| in its hi and 2^-18 × |l| in its lo (`Logs`). Three cases:
 -- the exponent e of 1 + x is not 0 (`far-whole`); e is 0 and the inverse is not 1 (`far-part`); e is 0 and the inverse is 1 (`near`), where z is 1 + x less 1 and
 -- both logarithms are on the scale of z. Assumes nothing.
-use mathlib.Core.Path.{_≡_, refl, sym, ap, _∙_, subst}
+use mathlib.Core.Path.{_≡_, sym, ap, _∙_, subst}
 use Prim.Native.Nat.{ℕ, zero, _+_, _-_, _*_, _/_, _^_, _≤_, _<_}
 use native.Mathlib.Nat.{le-refl, le-trans, le-of-eq, mul-assoc, mul-right-comm, mul-le-mul-right, mul-le-mul, mul-pos, zero-mul, one-mul, le-add-right, le-of-mul-le-mul-right}
 use native.Mathlib.Omega.{arith}
