@@ -1,16 +1,17 @@
 -- `split` and Dekker's product, from above, where nothing overflows. `split` leaves hi within 2^-25 of a, relatively, and lo at most 2^-25 of a
--- (`split-near`). The lo of `fromExactMult` is at most 2^-22 of the product and eight units of 2^-1074 (`dekker-near`). That it is the error exactly is not
+-- (`split-near`). The lo of `fromExactMult` is at most 2^-51 of the product and four units of 2^-1074 (`dekker-near`). That it is the error exactly is not
 -- claimed here. Assumes nothing.
-use mathlib.Core.Path.{_≡_, refl, sym, ap, subst}
+use mathlib.Core.Path.{_≡_, refl, sym, ap, ap₂, _∙_, subst}
 use mathlib.Core.Logic.{_⊎_, inl, inr}
 use mathlib.Core.Bool.{Bool, true, false, not}
 use Prim.Native.Nat.{ℕ, zero, suc, _+_, _-_, _*_, _/_, _^_, _≤_, _<_}
-use native.Mathlib.Nat.{le-trans, le-of-eq, le-of-mul-le-mul-right, mul-le-mul, mul-comm, mul-le-mul-right, add-le-add, one-mul}
+use native.Mathlib.Nat.{le-refl, le-trans, le-of-eq, le-of-mul-le-mul-right, mul-le-mul, mul-comm, mul-le-mul-right, add-le-add, add-assoc, add-comm, add-zero, zero-add, zero-mul, one-mul}
 use native.Mathlib.Omega.{arith}
-use lib.Dec.{T, leb, leb→le, nleb→lt, lit≤}
+use lib.Dec.{T, leb, leb→le, nleb→lt, lit≤, lit<}
 use lib.Ieee.{Float, unlike, fits}
 use Rattle.floats.specs.Operations.{_⊕_, _⊖_, _⊗_}
 use Rattle.double_double.specs.DoubleDouble.{splitter, split, fromExactMult}
+use Rattle.floats.proofs.Laws.Sums.{above, under}
 use Rattle.bounds.proofs.Values.{perOne, perOne-pos, plus, less, mag, one-side, Number, Along}
 use Rattle.bounds.proofs.Operation.{limit, Small, Multiplied, add-near, sub-near, mul-near}
 use Rattle.bounds.proofs.Sums.{close-mag, sum-small, difference-small, add-mag}
@@ -98,6 +99,12 @@ pub record Halves (a : Float) : Type 0 where
   pub hi-most : (plus (split a .hi) + less a) * 2 ^ 25 ≤ (less (split a .hi) + plus a) * 2 ^ 25 + mag a
   pub hi-least : (less (split a .hi) + plus a) * 2 ^ 25 ≤ (plus (split a .hi) + less a) * 2 ^ 25 + mag a
   pub lo-small : mag (split a .lo) * 2 ^ 25 ≤ mag a
+  pub sum-most : (plus (split a .hi) + plus (split a .lo) + less a) * 2 ^ 78 ≤ (less (split a .hi) + less (split a .lo) + plus a) * 2 ^ 78 + mag a
+  pub sum-least : (less (split a .hi) + less (split a .lo) + plus a) * 2 ^ 78 ≤ (plus (split a .hi) + plus (split a .lo) + less a) * 2 ^ 78 + mag a
+
+-- lo is a - hi but for a rounding
+sum-off : (p n q m r l d A : ℕ) → (r + (n + q)) * 2 ^ 53 ≤ (l + (p + m)) * 2 ^ 53 + d → d * 2 ^ 25 ≤ A → (q + r + n) * 2 ^ 78 ≤ (m + l + p) * 2 ^ 78 + A
+sum-off p n q m r l d A h g = omega arith
 
 fits-product : (A l w : ℕ) → (A + 1) * 2 ^ 28 ≤ l → 134217729 * w * A ≤ l * w
 fits-product A l w h = le-trans (le-of-eq (move w A)) (mul-le-mul-right w (under A l h))
@@ -129,6 +136,8 @@ split-near {a} p l =
       hi-most = swapped (plus a) (less a) (plus h) (less h) (mag a) (apart (less a + plus h) (plus a + less h) ((134217733 * mag a + 2) / 2 ^ 53) (mag a) (small .lower) x);
       hi-least = swapped (less a) (plus a) (less h) (plus h) (mag a) (apart (plus a + less h) (less a + plus h) ((134217733 * mag a + 2) / 2 ^ 53) (mag a) (small .upper) x);
       lo-small = share-lo (mag a) (mag (a ⊖ h)) ((134217733 * mag a + 2) / 2 ^ 53) y (close-mag ((134217733 * mag a + 2) / 2 ^ 53) four small);
+      sum-most = sum-off (plus a) (less a) (plus h) (less h) (plus (a ⊖ h)) (less (a ⊖ h)) ((134217733 * mag a + 2) / 2 ^ 53) (mag a) (four .most) x;
+      sum-least = sum-off (less a) (plus a) (less h) (plus h) (less (a ⊖ h)) (plus (a ⊖ h)) ((134217733 * mag a + 2) / 2 ^ 53) (mag a) (four .least) x;
     }
   where
     swapped : (p n q m A : ℕ) → (n + q) * 2 ^ 25 ≤ (p + m) * 2 ^ 25 + A → (q + n) * 2 ^ 25 ≤ (m + p) * 2 ^ 25 + A
@@ -235,11 +244,77 @@ both-lo A B x y g h = go (x * y) (A * B) (le-trans (le-of-eq (left x y)) (mul-le
     go : (N M : ℕ) → N * 2 ^ 50 ≤ M → N * 2 ^ 30 ≤ M
     go N M h = omega arith
 
+-- ---- a product with its sign
+-- what is along the sign u
+along-parts : (u : Bool) (x : Float) → Along u x → (plus x ≡ above u (mag x)) × (less x ≡ under u (mag x))
+along-parts false x h = go (plus x) (less x) h
+  where
+    go : (p n : ℕ) → 0 + n ≡ 0 → (p ≡ p + n) × (n ≡ 0)
+    go p n h = (omega arith, omega arith)
+along-parts true x h = go (plus x) (less x) h
+  where
+    go : (p n : ℕ) → p + 0 ≡ 0 → (p ≡ 0) × (n ≡ p + n)
+    go p n h = (omega arith, omega arith)
+
+-- z × w is p - n but for e / 2^53
+record Off (p n e w : ℕ) (z : Float) : Type 0 where
+  most : (plus z * w + n) * 2 ^ 53 ≤ (less z * w + p) * 2 ^ 53 + e
+  least : (less z * w + p) * 2 ^ 53 ≤ (plus z * w + n) * 2 ^ 53 + e
+
+abbrev plusTimes : Float → Float → ℕ
+plusTimes x y = plus x * plus y + less x * less y
+
+abbrev lessTimes : Float → Float → ℕ
+lessTimes x y = plus x * less y + less x * plus y
+
+off-signs : (u v : Bool) (X Y Z w e : ℕ) → Z * w * 2 ^ 53 ≤ X * Y * 2 ^ 53 + e → X * Y * 2 ^ 53 ≤ Z * w * 2 ^ 53 + e
+    → ((above (unlike u v) Z * w + (above u X * under v Y + under u X * above v Y)) * 2 ^ 53 ≤ (under (unlike u v) Z * w + (above u X * above v Y + under u X * under v Y)) * 2 ^ 53 + e)
+    × ((under (unlike u v) Z * w + (above u X * above v Y + under u X * under v Y)) * 2 ^ 53 ≤ (above (unlike u v) Z * w + (above u X * under v Y + under u X * above v Y)) * 2 ^ 53 + e)
+off-signs false false X Y Z w e g h = (omega arith, omega arith)
+off-signs false true X Y Z w e g h = (omega arith, omega arith)
+off-signs true false X Y Z w e g h = (omega arith, omega arith)
+off-signs true true X Y Z w e g h = (omega arith, omega arith)
+
+-- the two inequalities, over the six parts
+abbrev OffAt : ℕ → ℕ → ℕ → ℕ → ℕ → ℕ → ℕ → ℕ → Type 0
+OffAt px nx py ny pz nz w e = ((pz * w + (px * ny + nx * py)) * 2 ^ 53 ≤ (nz * w + (px * py + nx * ny)) * 2 ^ 53 + e) × ((nz * w + (px * py + nx * ny)) * 2 ^ 53 ≤ (pz * w + (px * ny + nx * py)) * 2 ^ 53 + e)
+
+parts-at : (px nx py ny pz nz px' nx' py' ny' pz' nz' w e : ℕ) → px ≡ px' → nx ≡ nx' → py ≡ py' → ny ≡ ny' → pz ≡ pz' → nz ≡ nz' → OffAt px' nx' py' ny' pz' nz' w e → OffAt px nx py ny pz nz w e
+parts-at px nx py ny pz nz px' nx' py' ny' pz' nz' w e a b c d f g h =
+    subst (λ (k : ℕ). OffAt k nx py ny pz nz w e) (sym a)
+    (subst (λ (k : ℕ). OffAt px' k py ny pz nz w e) (sym b)
+    (subst (λ (k : ℕ). OffAt px' nx' k ny pz nz w e) (sym c)
+    (subst (λ (k : ℕ). OffAt px' nx' py' k pz nz w e) (sym d)
+    (subst (λ (k : ℕ). OffAt px' nx' py' ny' k nz w e) (sym f)
+    (subst (λ (k : ℕ). OffAt px' nx' py' ny' pz' k w e) (sym g) h)))))
+
+off-along : (u v : Bool) (x y z : Float) → Along u x → Along v y → Multiplied x y z → Off (plusTimes x y) (lessTimes x y) (mag x * mag y + perOne * 2 ^ 52) perOne z
+off-along u v x y z a b m =
+    let X = along-parts u x a in
+    let Y = along-parts v y b in
+    let Z = along-parts (unlike u v) z (m .along u v a b) in
+    let e = mag x * mag y + perOne * 2 ^ 52 in
+    let o = parts-at (plus x) (less x) (plus y) (less y) (plus z) (less z) (above u (mag x)) (under u (mag x)) (above v (mag y)) (under v (mag y)) (above (unlike u v) (mag z)) (under (unlike u v) (mag z)) perOne e
+    (X .0) (X .1) (Y .0) (Y .1) (Z .0) (Z .1)
+    (off-signs u v (mag x) (mag y) (mag z) perOne e (le-trans (m .most) (le-of-eq (add-assoc (mag x * mag y * 2 ^ 53) (mag x * mag y) (perOne * 2 ^ 52)))) (le-trans (m .least) (le-of-eq (add-assoc (mag z * perOne * 2 ^ 53) (mag x * mag y) (perOne * 2 ^ 52))))) in
+    record { most = o .0; least = o .1 }
+
+off-product : (x y z : Float) → Multiplied x y z → Off (plusTimes x y) (lessTimes x y) (mag x * mag y + perOne * 2 ^ 52) perOne z
+off-product x y z m = go (direction x) (direction y)
+  where
+    go : Along true x ⊎ Along false x → Along true y ⊎ Along false y → Off (plusTimes x y) (lessTimes x y) (mag x * mag y + perOne * 2 ^ 52) perOne z
+    go (inl a) (inl b) = off-along true true x y z a b m
+    go (inl a) (inr b) = off-along true false x y z a b m
+    go (inr a) (inl b) = off-along false true x y z a b m
+    go (inr a) (inr b) = off-along false false x y z a b m
+
 -- ---- Dekker's product, with M = |a|×|b|
--- x is at most k × M / 2^30 and j units of 2^-1074, in size
-record Sized (M k j : ℕ) (x : Float) : Type 0 where
+-- x is at most k × M / 2^30 and j units of 2^-1074, in size; and it is p - n, over 2^1074, but for c × M / 2^83 and g × 2^-53 units
+record Sized (M k j p n c g : ℕ) (x : Float) : Type 0 where
   number : Number x
   size : mag x * perOne * 2 ^ 30 ≤ k * M + j * (perOne * 2 ^ 30)
+  most : (plus x * perOne + n) * 2 ^ 83 ≤ (less x * perOne + p) * 2 ^ 83 + (c * M + g * (perOne * 2 ^ 30))
+  least : (less x * perOne + p) * 2 ^ 83 ≤ (plus x * perOne + n) * 2 ^ 83 + (c * M + g * (perOne * 2 ^ 30))
 
 -- M is below the overflow
 abbrev pub Moderate : ℕ → Type 0
@@ -260,8 +335,23 @@ times-size x d w h =
     let g : x * 2 ^ 53 * w ≤ (d * 2 ^ 53 + d) * w = mul-le-mul-right w h in
     omega (arith, g)
 
-sized-sum : {M k j l i : ℕ} {x y : Float} → Moderate M → Sized M k j x → Sized M l i y → k + l ≤ 2 ^ 20 → j + i ≤ 15 → Sized M (k + l + 1) (j + i + 1) (x ⊕ y)
-sized-sum {M} {k} {j} {l} {i} {x} {y} moderate X Y K J =
+-- the sum of two that are off, and its own rounding
+off-sum : (P N P1 N1 P2 N2 p n q m D X Y Z : ℕ) → (P + (N1 + N2)) * 2 ^ 53 ≤ (N + (P1 + P2)) * 2 ^ 53 + D → (P1 + n) * 2 ^ 83 ≤ (N1 + p) * 2 ^ 83 + X → (P2 + m) * 2 ^ 83 ≤ (N2 + q) * 2 ^ 83 + Y → D * 2 ^ 30 ≤ Z
+    → (P + (n + m)) * 2 ^ 83 ≤ (N + (p + q)) * 2 ^ 83 + (X + Y + Z)
+off-sum P N P1 N1 P2 N2 p n q m D X Y Z h g k l = omega arith
+
+-- each side times w
+spread : (a b c d e f D w : ℕ) → (a + (b + c)) * 2 ^ 53 ≤ (d + (e + f)) * 2 ^ 53 + D → (a * w + (b * w + c * w)) * 2 ^ 53 ≤ (d * w + (e * w + f * w)) * 2 ^ 53 + D * w
+spread a b c d e f D w h =
+    let g : (a + (b + c)) * 2 ^ 53 * w ≤ ((d + (e + f)) * 2 ^ 53 + D) * w = mul-le-mul-right w h in
+    omega (arith, g)
+
+gathered : (c g f h k j M U : ℕ) → c * M + g * U + (f * M + h * U) + (k * M + j * U) ≡ (c + f + k) * M + (g + h + j) * U
+gathered c g f h k j M U = omega arith
+
+sized-sum : {M k j p n c g l i q m f h : ℕ} {x y : Float} → Moderate M → Sized M k j p n c g x → Sized M l i q m f h y → k + l ≤ 2 ^ 20 → j + i ≤ 15
+    → Sized M (k + l + 1) (j + i + 1) (p + q) (n + m) (c + f + (k + l)) (g + h + (j + i)) (x ⊕ y)
+sized-sum {M} {k} {j} {p} {n} {c} {g} {l} {i} {q} {m} {f} {h} {x} {y} moderate X Y K J =
     let U = perOne * 2 ^ 30 in
     let d = mag x + mag y in
     let E = (k + l) * M + (j + i) * U in
@@ -269,7 +359,20 @@ sized-sum {M} {k} {j} {l} {i} {x} {y} moderate X Y K J =
     let most : E ≤ 2 ^ 20 * M + 15 * U = add-le-add (mul-le-mul-right M K) (mul-le-mul-right U J) in
     let lim : d ≤ limit = in-limit d E limit perOne perOne-pos both (le-trans most (under M perOne (limit * perOne) moderate)) in
     let r = grown (mag (x ⊕ y) * perOne) (d * perOne) E (M + U) (times-size (mag (x ⊕ y)) d perOne (add-mag d (X .number) (Y .number) (le-of-eq refl) lim)) both (le-trans most (over M U)) in
-    record { number = add-near d (X .number) (Y .number) (sum-small x y d (le-of-eq refl)) lim .number; size = le-trans r (le-of-eq (one-more (k + l) (j + i) M U)) }
+    let z = add-near d (X .number) (Y .number) (sum-small x y d (le-of-eq refl)) lim in
+    let sum = x ⊕ y in
+    record {
+      number = z .number;
+      size = le-trans r (le-of-eq (one-more (k + l) (j + i) M U));
+      most = le-trans
+          (off-sum (plus sum * perOne) (less sum * perOne) (plus x * perOne) (less x * perOne) (plus y * perOne) (less y * perOne) p n q m (d * perOne) (c * M + g * U) (f * M + h * U) E
+          (spread (plus sum) (less x) (less y) (less sum) (plus x) (plus y) d perOne (z .most)) (X .most) (Y .most) both)
+          (add-le-add (le-refl ((less sum * perOne + (p + q)) * 2 ^ 83)) (le-of-eq (gathered c g f h (k + l) (j + i) M U)));
+      least = le-trans
+          (off-sum (less sum * perOne) (plus sum * perOne) (less x * perOne) (plus x * perOne) (less y * perOne) (plus y * perOne) n p m q (d * perOne) (c * M + g * U) (f * M + h * U) E
+          (spread (less sum) (plus x) (plus y) (plus sum) (less x) (less y) d perOne (z .least)) (X .least) (Y .least) both)
+          (add-le-add (le-refl ((plus sum * perOne + (n + m)) * 2 ^ 83)) (le-of-eq (gathered c g f h (k + l) (j + i) M U)));
+    }
   where
     both-sizes : (p q w : ℕ) → p * w * 2 ^ 30 ≤ k * M + j * (w * 2 ^ 30) → q * w * 2 ^ 30 ≤ l * M + i * (w * 2 ^ 30) → (p + q) * w * 2 ^ 30 ≤ (k + l) * M + (j + i) * (w * 2 ^ 30)
     both-sizes p q w g h = omega arith
@@ -284,10 +387,20 @@ sized-sum {M} {k} {j} {l} {i} {x} {y} moderate X Y K J =
     one-more k j M U = omega arith
 
 -- the product of two parts, where that of their sizes is at most c × M / 2^30
-sized-product : {M : ℕ} {x y : Float} (c : ℕ) → Moderate M → Number x → Number y → mag x * mag y * 2 ^ 30 ≤ c * M → c ≤ 2 ^ 20 → Sized M (c + 1) 1 (x ⊗ y)
+-- a product, off by its rounding
+off-at : (P N p n K W X : ℕ) → (P + n) * 2 ^ 53 ≤ (N + p) * 2 ^ 53 + (K + W * 2 ^ 52) → K * 2 ^ 30 ≤ X → (P + n) * 2 ^ 83 ≤ (N + p) * 2 ^ 83 + (X + 2 ^ 52 * (W * 2 ^ 30))
+off-at P N p n K W X h k = omega arith
+
+sized-product : {M : ℕ} {x y : Float} (c : ℕ) → Moderate M → Number x → Number y → mag x * mag y * 2 ^ 30 ≤ c * M → c ≤ 2 ^ 20 → Sized M (c + 1) 1 (plusTimes x y) (lessTimes x y) c (2 ^ 52) (x ⊗ y)
 sized-product {M} {x} {y} c moderate p q h C =
     let r = mul-near p q (fit (mag x * mag y) (c * M) M perOne (limit * perOne) h (mul-le-mul-right M C) moderate) in
-    record { number = r .number; size = le-trans (go (mag (x ⊗ y) * perOne) (mag x * mag y) (c * M) M perOne h (mul-le-mul-right M C) (r .most)) (le-of-eq (one-more c M (perOne * 2 ^ 30))) }
+    let o = off-product x y (x ⊗ y) r in
+    record {
+      number = r .number;
+      size = le-trans (go (mag (x ⊗ y) * perOne) (mag x * mag y) (c * M) M perOne h (mul-le-mul-right M C) (r .most)) (le-of-eq (one-more c M (perOne * 2 ^ 30)));
+      most = off-at (plus (x ⊗ y) * perOne) (less (x ⊗ y) * perOne) (plusTimes x y) (lessTimes x y) (mag x * mag y) perOne (c * M) (o .most) h;
+      least = off-at (less (x ⊗ y) * perOne) (plus (x ⊗ y) * perOne) (lessTimes x y) (plusTimes x y) (mag x * mag y) perOne (c * M) (o .least) h;
+    }
   where
     fit : (K E M w L : ℕ) → K * 2 ^ 30 ≤ E → E ≤ 2 ^ 20 * M → (M + w) * 16 ≤ L → K ≤ L
     fit K E M w L k e h = omega arith
@@ -335,8 +448,9 @@ gap-times x y w E g h = go (leb x y) (leb→le x y) (nleb→lt x y)
 
 -- hi×hi less the product
 sized-gap : {M : ℕ} {x y : Float} (u : Bool) → Moderate M → Along u x → Along u y → Number x → Number y
-    → mag x * perOne * 2 ^ 30 ≤ mag y * perOne * 2 ^ 30 + (66 * M + 1 * (perOne * 2 ^ 30)) → mag y * perOne * 2 ^ 30 ≤ mag x * perOne * 2 ^ 30 + (66 * M + 1 * (perOne * 2 ^ 30)) → Sized M 67 2 (x ⊖ y)
-sized-gap {M} {x} {y} u moderate a b p q g h =
+    → mag x * perOne * 2 ^ 30 ≤ mag y * perOne * 2 ^ 30 + (66 * M + 1 * (perOne * 2 ^ 30)) → mag y * perOne * 2 ^ 30 ≤ mag x * perOne * 2 ^ 30 + (66 * M + 1 * (perOne * 2 ^ 30))
+    → {i j k l : ℕ} (K : ℕ) → Off i j (K + perOne * 2 ^ 52) perOne x → K * 2 ^ 30 ≤ (2 ^ 30 + 65) * M → Off k l (M + perOne * 2 ^ 52) perOne y → Sized M 67 2 (i + l) (j + k) (2 ^ 30 + 65 + 2 ^ 30 + 66) (2 ^ 52 + 2 ^ 52 + 1) (x ⊖ y)
+sized-gap {M} {x} {y} u moderate a b p q g h {i} {j} {k} {l} K X bound Y =
     let d = gap (mag x) (mag y) in
     let U = perOne * 2 ^ 30 in
     let E = 66 * M + 1 * U in
@@ -347,6 +461,16 @@ sized-gap {M} {x} {y} u moderate a b p q g h =
     record {
       number = t .number;
       size = le-trans (grown (mag (x ⊖ y) * perOne) (d * perOne) E (M + U) (times-size (mag (x ⊖ y)) d perOne (close-mag d t small)) size (over M U)) (le-of-eq (one-more M U));
+      most = le-trans
+          (off-sum (plus (x ⊖ y) * perOne) (less (x ⊖ y) * perOne) (plus x * perOne) (less x * perOne) (less y * perOne) (plus y * perOne) i j l k (d * perOne) ((2 ^ 30 + 65) * M + 2 ^ 52 * U) (2 ^ 30 * M + 2 ^ 52 * U) E
+          (spread (plus (x ⊖ y)) (less x) (plus y) (less (x ⊖ y)) (plus x) (less y) d perOne (t .most)) (off-at (plus x * perOne) (less x * perOne) i j K perOne ((2 ^ 30 + 65) * M) (X .most) bound)
+          (off-at (less y * perOne) (plus y * perOne) l k M perOne (2 ^ 30 * M) (Y .least) (le-of-eq (mul-comm M (2 ^ 30)))) size)
+          (add-le-add (le-refl ((less (x ⊖ y) * perOne + (i + l)) * 2 ^ 83)) (le-of-eq (gathered (2 ^ 30 + 65) (2 ^ 52) (2 ^ 30) (2 ^ 52) 66 1 M U)));
+      least = le-trans
+          (off-sum (less (x ⊖ y) * perOne) (plus (x ⊖ y) * perOne) (less x * perOne) (plus x * perOne) (plus y * perOne) (less y * perOne) j i k l (d * perOne) ((2 ^ 30 + 65) * M + 2 ^ 52 * U) (2 ^ 30 * M + 2 ^ 52 * U) E
+          (spread (less (x ⊖ y)) (plus x) (less y) (plus (x ⊖ y)) (less x) (plus y) d perOne (t .least)) (off-at (less x * perOne) (plus x * perOne) j i K perOne ((2 ^ 30 + 65) * M) (X .least) bound)
+          (off-at (plus y * perOne) (less y * perOne) k l M perOne (2 ^ 30 * M) (Y .most) (le-of-eq (mul-comm M (2 ^ 30)))) size)
+          (add-le-add (le-refl ((plus (x ⊖ y) * perOne + (j + k)) * 2 ^ 83)) (le-of-eq (gathered (2 ^ 30 + 65) (2 ^ 52) (2 ^ 30) (2 ^ 52) 66 1 M U)));
     }
   where
     under : (M w L : ℕ) → (M + w) * 16 ≤ L → 66 * M + 1 * (w * 2 ^ 30) ≤ L * 2 ^ 30
@@ -358,10 +482,111 @@ sized-gap {M} {x} {y} u moderate a b p q g h =
     one-more : (M U : ℕ) → 66 * M + 1 * U + (M + U) ≡ 67 * M + 2 * U
     one-more M U = omega arith
 
+-- ---- the four products of the parts are the product of the sums of the parts, and these are a and b but for 2^-78
+-- p - n, times u - v, is q - m, times u - v, but for e × (u + v)
+times-off : (p n q m e u v : ℕ) → p + m ≤ n + q + e → q + n ≤ m + p + e → p * u + n * v + (q * v + m * u) ≤ p * v + n * u + (q * u + m * v) + e * (u + v)
+times-off p n q m e u v g h =
+    let a : (p + m) * u ≤ (n + q + e) * u = mul-le-mul-right u g in
+    let b : (q + n) * v ≤ (m + p + e) * v = mul-le-mul-right v h in
+    omega (arith, a, b)
+
+-- with the products of the parts for variables
+off-twice : (XP XN AP AN rp rn e f M : ℕ) → (XP + AN) * 2 ^ 78 ≤ (XN + AP) * 2 ^ 78 + e → (AP + rn) * 2 ^ 78 ≤ (AN + rp) * 2 ^ 78 + f → e ≤ 2 * M → f ≡ M → (XP + rn) * 2 ^ 78 ≤ (XN + rp) * 2 ^ 78 + 3 * M
+off-twice XP XN AP AN rp rn e f M g h k l = omega arith
+
+regroup : (p n q m u v k : ℕ) → (p * u + n * v + (q * v + m * u)) * k ≡ p * k * u + n * k * v + (q * k * v + m * k * u)
+regroup p n q m u v k = omega arith
+
+regroup-right : (p n q m u v k e : ℕ) → p * k * v + n * k * u + (q * k * u + m * k * v) + e ≡ (p * v + n * u + (q * u + m * v)) * k + e
+regroup-right p n q m u v k e = omega arith
+
+scaled-off : (p n q m e u v k : ℕ) → (p + m) * k ≤ (n + q) * k + e → (n + q) * k ≤ (p + m) * k + e → (p * u + n * v + (q * v + m * u)) * k ≤ (p * v + n * u + (q * u + m * v)) * k + e * (u + v)
+scaled-off p n q m e u v k g h =
+    le-trans (le-of-eq (regroup p n q m u v k))
+    (le-trans (times-off (p * k) (n * k) (q * k) (m * k) e u v (apart-one p m n q k e g) (apart-two n q p m k e h)) (le-of-eq (regroup-right p n q m u v k (e * (u + v)))))
+  where
+    apart-one : (p m n q k e : ℕ) → (p + m) * k ≤ (n + q) * k + e → p * k + m * k ≤ n * k + q * k + e
+    apart-one p m n q k e h = omega arith
+
+    apart-two : (n q p m k e : ℕ) → (n + q) * k ≤ (p + m) * k + e → q * k + n * k ≤ m * k + p * k + e
+    apart-two n q p m k e h = omega arith
+
+-- with x and y for the sums of the parts of a and of b, each in its two parts
+sums-off : (xp xn yp yn pa na pb nb : ℕ) → (xp + na) * 2 ^ 78 ≤ (xn + pa) * 2 ^ 78 + (pa + na) → (xn + pa) * 2 ^ 78 ≤ (xp + na) * 2 ^ 78 + (pa + na) → (yp + nb) * 2 ^ 78 ≤ (yn + pb) * 2 ^ 78 + (pb + nb)
+    → (yn + pb) * 2 ^ 78 ≤ (yp + nb) * 2 ^ 78 + (pb + nb) → yp + yn ≤ 2 * (pb + nb)
+    → (xp * yp + xn * yn + (pa * nb + na * pb)) * 2 ^ 78 ≤ (xp * yn + xn * yp + (pa * pb + na * nb)) * 2 ^ 78 + 3 * ((pa + na) * (pb + nb))
+sums-off xp xn yp yn pa na pb nb a b c d s =
+    off-twice (xp * yp + xn * yn) (xp * yn + xn * yp) (pa * yp + na * yn) (pa * yn + na * yp) (pa * pb + na * nb) (pa * nb + na * pb) ((pa + na) * (yp + yn)) ((pb + nb) * (pa + na)) ((pa + na) * (pb + nb))
+    (scaled-off xp xn pa na (pa + na) yp yn (2 ^ 78) a b)
+    (le-trans (le-of-eq (ap (λ (k : ℕ). k * 2 ^ 78) (left yp yn pb nb pa na))) (le-trans (scaled-off yp yn pb nb (pb + nb) pa na (2 ^ 78) c d) (le-of-eq (ap (λ (k : ℕ). k * 2 ^ 78 + (pb + nb) * (pa + na)) (right yp yn pb nb pa na)))))
+    (le-trans (mul-le-mul (le-refl (pa + na)) s) (le-of-eq (twice (pa + na) (pb + nb)))) (mul-comm (pb + nb) (pa + na))
+  where
+    left : (yp yn pb nb pa na : ℕ) → pa * yp + na * yn + (pa * nb + na * pb) ≡ yp * pa + yn * na + (pb * na + nb * pa)
+    left yp yn pb nb pa na = omega arith
+
+    right : (yp yn pb nb pa na : ℕ) → yp * na + yn * pa + (pb * pa + nb * na) ≡ pa * yn + na * yp + (pa * pb + na * nb)
+    right yp yn pb nb pa na = omega arith
+
+    twice : (a b : ℕ) → a * (2 * b) ≡ 2 * (a * b)
+    twice a b = omega arith
+
+-- the parts of b together
+both-parts : (h l B : ℕ) → h * 2 ^ 25 ≤ B * 2 ^ 25 + B → l * 2 ^ 25 ≤ B → h + l ≤ 2 * B
+both-parts h l B g k = omega arith
+
+halves-of : (p q n m : ℕ) → p + q + (n + m) ≡ p + n + (q + m)
+halves-of p q n m = omega arith
+
+turn : (x y a b : ℕ) → x * 2 ^ 78 ≤ y * 2 ^ 78 + (a + b) → x * 2 ^ 78 ≤ y * 2 ^ 78 + (b + a)
+turn x y a b h = omega arith
+
+-- the sums that the four products make, as they come
+four-products : (ph nh pl nl qh mh ql ml r : ℕ) → pl * ql + nl * ml + (pl * qh + nl * mh + (ph * ql + nh * ml + (ph * qh + nh * mh + r))) ≡ (ph + pl) * (qh + ql) + (nh + nl) * (mh + ml) + r
+four-products ph nh pl nl qh mh ql ml r = omega arith
+
+four-turned : (ph nh pl nl qh mh ql ml r : ℕ) → pl * ml + nl * ql + (pl * mh + nl * qh + (ph * ml + nh * ql + (ph * mh + nh * qh + r))) ≡ (ph + pl) * (mh + ml) + (nh + nl) * (qh + ql) + r
+four-turned ph nh pl nl qh mh ql ml r = omega arith
+
+four-products' : (ph nh pl nl qh mh ql ml pa na pb nb : ℕ)
+    → pl * ql + nl * ml + (pl * qh + nl * mh + (ph * ql + nh * ml + (ph * qh + nh * mh + (pa * nb + na * pb)))) ≡ (nh + nl) * (mh + ml) + (ph + pl) * (qh + ql) + (na * pb + pa * nb)
+four-products' ph nh pl nl qh mh ql ml pa na pb nb = omega arith
+
+four-turned' : (ph nh pl nl qh mh ql ml pa na pb nb : ℕ)
+    → pl * ml + nl * ql + (pl * mh + nl * qh + (ph * ml + nh * ql + (ph * mh + nh * qh + (pa * pb + na * nb)))) ≡ (nh + nl) * (qh + ql) + (ph + pl) * (mh + ml) + (na * nb + pa * pb)
+four-turned' ph nh pl nl qh mh ql ml pa na pb nb = omega arith
+
+-- off p - n, which is small: the size
+final-size : (P N p n M w : ℕ) → (P + n) * 2 ^ 83 ≤ (N + p) * 2 ^ 83 + (2147484222 * M + (5 * 2 ^ 52 + 16) * (w * 2 ^ 30)) → p * 2 ^ 78 ≤ n * 2 ^ 78 + 3 * M → N ≡ 0 → P * 2 ^ 51 ≤ M + w * 2 ^ 53
+final-size P N p n M w h g z = cut P M w (over P N p n M w h (wider p n M g) z)
+  where
+    wider : (p n M : ℕ) → p * 2 ^ 78 ≤ n * 2 ^ 78 + 3 * M → p * 2 ^ 83 ≤ n * 2 ^ 83 + 96 * M
+    wider p n M h = omega arith
+
+    over : (P N p n M w : ℕ) → (P + n) * 2 ^ 83 ≤ (N + p) * 2 ^ 83 + (2147484222 * M + (5 * 2 ^ 52 + 16) * (w * 2 ^ 30)) → p * 2 ^ 83 ≤ n * 2 ^ 83 + 96 * M → N ≡ 0
+        → P * 2 ^ 83 ≤ 2147484318 * M + (5 * 2 ^ 52 + 16) * (w * 2 ^ 30)
+    over P N p n M w h g z = omega arith
+
+    enough : (M w : ℕ) → 2147484318 * M + (5 * 2 ^ 52 + 16) * (w * 2 ^ 30) ≤ (M + w * 2 ^ 53) * 2 ^ 32
+    enough M w = omega arith
+
+    same : (P : ℕ) → P * 2 ^ 51 * 2 ^ 32 ≡ P * 2 ^ 83
+    same P = omega arith
+
+    cut : (P M w : ℕ) → P * 2 ^ 83 ≤ 2147484318 * M + (5 * 2 ^ 52 + 16) * (w * 2 ^ 30) → P * 2 ^ 51 ≤ M + w * 2 ^ 53
+    cut P M w h = le-of-mul-le-mul-right (le-trans (le-of-eq (same P)) (le-trans h (enough M w))) (lit< tt)
+
+-- on whichever side
+of-sides : (q m w p n M : ℕ) → (q ≡ 0) ⊎ (m ≡ 0) → (q * w + n) * 2 ^ 83 ≤ (m * w + p) * 2 ^ 83 + (2147484222 * M + (5 * 2 ^ 52 + 16) * (w * 2 ^ 30))
+    → (m * w + p) * 2 ^ 83 ≤ (q * w + n) * 2 ^ 83 + (2147484222 * M + (5 * 2 ^ 52 + 16) * (w * 2 ^ 30)) → p * 2 ^ 78 ≤ n * 2 ^ 78 + 3 * M → n * 2 ^ 78 ≤ p * 2 ^ 78 + 3 * M → (q + m) * w * 2 ^ 51 ≤ M + w * 2 ^ 53
+of-sides q m w p n M (inl e) h g k l =
+    le-trans (le-of-eq (ap (λ (i : ℕ). (i + m) * w * 2 ^ 51) e ∙ ap (λ (i : ℕ). i * w * 2 ^ 51) (zero-add m))) (final-size (m * w) (q * w) n p M w g l (ap (λ (i : ℕ). i * w) e ∙ zero-mul w))
+of-sides q m w p n M (inr e) h g k l =
+    le-trans (le-of-eq (ap (λ (i : ℕ). (q + i) * w * 2 ^ 51) e ∙ ap (λ (i : ℕ). i * w * 2 ^ 51) (add-zero q))) (final-size (q * w) (m * w) p n M w h k (ap (λ (i : ℕ). i * w) e ∙ zero-mul w))
+
 pub record Dekker (a b : Float) : Type 0 where
   pub hi : Multiplied a b (fromExactMult a b .hi)
   pub lo-number : Number (fromExactMult a b .lo)
-  pub lo-small : mag (fromExactMult a b .lo) * perOne * 2 ^ 22 ≤ mag a * mag b + perOne * 2 ^ 25
+  pub lo-small : mag (fromExactMult a b .lo) * perOne * 2 ^ 51 ≤ mag a * mag b + perOne * 2 ^ 53
 
 module _ {a b : Float} (p : Number a) (q : Number b) (A : (mag a + 1) * 2 ^ 28 ≤ limit) (B : (mag b + 1) * 2 ^ 28 ≤ limit) (moderate : Moderate (mag a * mag b)) where
   dekker-along : (s t : Bool) → Along s a → Along t b → Dekker a b
@@ -383,14 +608,30 @@ module _ {a b : Float} (p : Number a) (q : Number b) (A : (mag a + 1) * 2 ^ 28 �
       let w = mul-near (ha .hi-number) (hb .hi-number) (inside-twice (mag ah * mag bh) M perOne (limit * perOne) three moderate) in
       let t1 = sized-gap (unlike s t) moderate (w .along s t (pa .along) (pb .along)) (r .along s t za zb) (w .number) (r .number)
       (first-gap (mag (ah ⊗ bh) * perOne) (mag (a ⊗ b) * perOne) (mag ah * mag bh) M M perOne three over (w .most) (r .least))
-      (first-gap (mag (a ⊗ b) * perOne) (mag (ah ⊗ bh) * perOne) M (mag ah * mag bh) M perOne (turned (mag ah * mag bh) M three) under (r .most) (w .least)) in
+      (first-gap (mag (a ⊗ b) * perOne) (mag (ah ⊗ bh) * perOne) M (mag ah * mag bh) M perOne (turned (mag ah * mag bh) M three) under (r .most) (w .least))
+      (mag ah * mag bh) (off-product ah bh (ah ⊗ bh) w) (le-trans over (le-of-eq (together M))) (off-product a b (a ⊗ b) r) in
       let p2 = sized-product 33 moderate (ha .hi-number) (hb .lo-number) (hi-lo (mag a) (mag b) (mag ah) (mag bl) (pa .most) (hb .lo-small)) (lit≤ tt) in
       let p3 = sized-product 33 moderate (ha .lo-number) (hb .hi-number) (lo-hi (mag a) (mag b) (mag al) (mag bh) (ha .lo-small) (pb .most)) (lit≤ tt) in
       let p4 = sized-product 1 moderate (ha .lo-number) (hb .lo-number) (le-trans (both-lo (mag a) (mag b) (mag al) (mag bl) (ha .lo-small) (hb .lo-small)) (le-of-eq (sym (one-mul M)))) (lit≤ tt) in
       let t2 = sized-sum moderate p2 t1 (lit≤ tt) (lit≤ tt) in
       let t3 = sized-sum moderate p3 t2 (lit≤ tt) (lit≤ tt) in
       let lo = sized-sum moderate p4 t3 (lit≤ tt) (lit≤ tt) in
-      record { hi = r; lo-number = lo .number; lo-small = final (mag (al ⊗ bl ⊕ (al ⊗ bh ⊕ (ah ⊗ bl ⊕ (ah ⊗ bh ⊖ a ⊗ b)))) * perOne) M perOne (lo .size) }
+      let e = al ⊗ bl ⊕ (al ⊗ bh ⊕ (ah ⊗ bl ⊕ (ah ⊗ bh ⊖ a ⊗ b))) in
+      let beside = both-parts (mag bh) (mag bl) (mag b) (pb .most) (hb .lo-small) in
+      let parts = sums-off (plus ah + plus al) (less ah + less al) (plus bh + plus bl) (less bh + less bl) (plus a) (less a) (plus b) (less b) (ha .sum-most) (ha .sum-least) (hb .sum-most) (hb .sum-least)
+      (le-trans (le-of-eq (halves-of (plus bh) (plus bl) (less bh) (less bl))) beside) in
+      let other = sums-off (less ah + less al) (plus ah + plus al) (plus bh + plus bl) (less bh + less bl) (less a) (plus a) (plus b) (less b) (turn (less ah + less al + plus a) (plus ah + plus al + less a) (plus a) (less a) (ha .sum-least))
+      (turn (plus ah + plus al + less a) (less ah + less al + plus a) (plus a) (less a) (ha .sum-most)) (hb .sum-most) (hb .sum-least)
+      (le-trans (le-of-eq (halves-of (plus bh) (plus bl) (less bh) (less bl))) beside) in
+      record {
+        hi = r;
+        lo-number = lo .number;
+        lo-small = of-sides (plus e) (less e) perOne _ _ M (one-side e) (lo .most) (lo .least)
+            (le-trans (le-of-eq (ap (λ (k : ℕ). k * 2 ^ 78) (four-products (plus ah) (less ah) (plus al) (less al) (plus bh) (less bh) (plus bl) (less bl) (lessTimes a b))))
+            (le-trans parts (le-of-eq (ap (λ (k : ℕ). k * 2 ^ 78 + 3 * M) (sym (four-turned (plus ah) (less ah) (plus al) (less al) (plus bh) (less bh) (plus bl) (less bl) (plusTimes a b)))))))
+            (le-trans (le-of-eq (ap (λ (k : ℕ). k * 2 ^ 78) (four-turned' (plus ah) (less ah) (plus al) (less al) (plus bh) (less bh) (plus bl) (less bl) (plus a) (less a) (plus b) (less b))))
+            (le-trans other (le-of-eq (ap₂ (λ (k m : ℕ). k * 2 ^ 78 + 3 * m) (sym (four-products' (plus ah) (less ah) (plus al) (less al) (plus bh) (less bh) (plus bl) (less bl) (plus a) (less a) (plus b) (less b))) (ap (λ (k : ℕ). k * mag b) (add-comm (less a) (plus a)))))));
+      }
     where
       thrice : (N M : ℕ) → N * 2 ^ 30 ≤ M * 2 ^ 30 + 65 * M → N + M ≤ 3 * M
       thrice N M n = omega arith
@@ -398,14 +639,14 @@ module _ {a b : Float} (p : Number a) (q : Number b) (A : (mag a + 1) * 2 ^ 28 �
       turned : (N M : ℕ) → N + M ≤ 3 * M → M + N ≤ 3 * M
       turned N M h = omega arith
 
+      together : (M : ℕ) → M * 2 ^ 30 + 65 * M ≡ (2 ^ 30 + 65) * M
+      together M = omega arith
+
       inside : (M w L : ℕ) → (M + w) * 16 ≤ L → M ≤ L
       inside M w L h = omega arith
 
       inside-twice : (N M w L : ℕ) → N + M ≤ 3 * M → (M + w) * 16 ≤ L → N ≤ L
       inside-twice N M w L n h = omega arith
-
-      final : (x M w : ℕ) → x * 2 ^ 30 ≤ 140 * M + 8 * (w * 2 ^ 30) → x * 2 ^ 22 ≤ M + w * 2 ^ 25
-      final x M w h = omega arith
 
   pub dekker-near : Dekker a b
   dekker-near = go (direction a) (direction b)

@@ -135,7 +135,7 @@ abbrev pub productK : ℕ → ℕ → ℕ
 productK K L = (K * L * (2 ^ 53 + 1) + 2 ^ 105) / 2 ^ 106 + 1
 
 abbrev pub dekkerK : ℕ → ℕ → ℕ
-dekkerK K L = (K * L + 2 ^ 78) / 2 ^ 75 + 1
+dekkerK K L = (K * L + 2 ^ 106) / 2 ^ 104 + 1
 
 -- the product of the sizes
 sizes : {μ ν π K L : ℕ} {x y : Float} → ProductScale μ ν π → Bound μ K x → Bound ν L y → mag x * mag y ≤ K * L * (S * π)
@@ -263,11 +263,11 @@ dekker-bounds {μ} {ν} {π} {K} {L} {x} {y} t p q k l =
       lo = record { scale = t .scale; number = r .lo-number; size = dekker-size (mag (fromExactMult x y .lo)) (mag x * mag y) (K * L) π (t .scale .positive) (r .lo-small) w };
     }
   where
-    dekker-most : (m k w s π : ℕ) → m * (s * 2 ^ 53) * 2 ^ 22 ≤ w + s * 2 ^ 53 * 2 ^ 25 → w ≤ k * (s * π) → m * s * 2 ^ 75 ≤ k * (s * π) + s * 2 ^ 78
+    dekker-most : (m k w s π : ℕ) → m * (s * 2 ^ 53) * 2 ^ 51 ≤ w + s * 2 ^ 53 * 2 ^ 53 → w ≤ k * (s * π) → m * s * 2 ^ 104 ≤ k * (s * π) + s * 2 ^ 106
     dekker-most m k w s π h g = omega arith
 
-    dekker-size : (m w k π : ℕ) → 0 < π → m * perOne * 2 ^ 22 ≤ w + perOne * 2 ^ 25 → w ≤ k * (S * π) → m ≤ ((k + 2 ^ 78) / 2 ^ 75 + 1) * π
-    dekker-size m w k π P h g = product-cut m S k π (2 ^ 75) (2 ^ 78) S-pos P (lit< tt) (dekker-most m k w S π (subst (λ (z : ℕ). m * z * 2 ^ 22 ≤ w + z * 2 ^ 25) one-is h) g)
+    dekker-size : (m w k π : ℕ) → 0 < π → m * perOne * 2 ^ 51 ≤ w + perOne * 2 ^ 53 → w ≤ k * (S * π) → m ≤ ((k + 2 ^ 106) / 2 ^ 104 + 1) * π
+    dekker-size m w k π P h g = product-cut m S k π (2 ^ 104) (2 ^ 106) S-pos P (lit< tt) (dekker-most m k w S π (subst (λ (z : ℕ). m * z * 2 ^ 51 ≤ w + z * 2 ^ 53) one-is h) g)
 
 -- ---- products of double-doubles
 abbrev pub quickLoK : ℕ → ℕ → ℕ → ℕ → ℕ
