@@ -22,7 +22,8 @@ use Rattle.double_double.specs.declared.DoubleDouble.{DoubleDouble}
 use Rattle.double_double.specs.DoubleDouble.{split, fromExactMult, fromFullExactAdd, fullAddF64, ddFmla}
 use Rattle.bounds.proofs.Values.{perOne, perOne-pos, plus, less, mag, Number, neg-plus, neg-less, neg-number, Units, by-value, sum-in-units, Along, Product, product-in-units}
 use Rattle.bounds.proofs.Operation.{limit, round-held, Same, add-exact, sub-exact, nothing, mul-near, units-mag}
-use Rattle.bounds.proofs.Products.{direction, split-near}
+use Rattle.bounds.proofs.Split.{split-near}
+use Rattle.bounds.proofs.Dekker.{direction}
 use Rattle.bounds.proofs.Scales.{S, S-pos}
 use Rattle.bounds.proofs.Compared.{Positive, positive-bound}
 

@@ -2,7 +2,8 @@
 pub mod Values
 pub mod Operation
 pub mod Sums
-pub mod Products
+pub mod Split
+pub mod Dekker
 pub mod Scales
 pub mod Distances
 pub mod Compared

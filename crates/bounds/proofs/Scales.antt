@@ -18,7 +18,7 @@ use Rattle.double_double.specs.DoubleDouble.{fromExactAdd, fromFullExactAdd, fr
 use Rattle.bounds.proofs.Values.{perOne, plus, less, mag, Number, neg-plus, neg-less, neg-number}
 use Rattle.bounds.proofs.Operation.{limit, Small, add-near, sub-near, mul-near}
 use Rattle.bounds.proofs.Sums.{sum-small, add-mag, close-mag, fast-sum, full-sum}
-use Rattle.bounds.proofs.Products.{dekker-near}
+use Rattle.bounds.proofs.Dekker.{dekker-near}
 
 -- the scale of 1
 unfoldable pub S : ℕ
