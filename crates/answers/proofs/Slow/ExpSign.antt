@@ -1,4 +1,4 @@
--- The end of the slow path: where the exponent's rest is a half at most and its second part 2^-8 at most, hi + lo is a number near 1, the power of two that is
+-- The end of the slow path: where the exponent's rest is a half at most and its second part 2^-31 at most, hi + lo is a number near 1, the power of two that is
 -- added to the exponent's field, 1000 at most, reaches neither a NaN's pattern nor the sign, and the answer has a clear sign (`away-clear`). Assumes
 -- nothing.
 use mathlib.Core.Path.{_≡_, sym, ap, _∙_, subst}
@@ -88,7 +88,7 @@ index-unclamped r h = go (powerIndex r) h
 abbrev shifted : DoubleDouble → Float → DoubleDouble
 shifted t k = fromExactAdd (t .hi ⊖ k) (t .lo)
 
-module _ (t : DoubleDouble) (k : Float) (b : Bound S (2 ^ 52) (t .hi ⊖ k)) (c : Bound S (2 ^ 45) (t .lo)) where
+module _ (t : DoubleDouble) (k : Float) (b : Bound S (2 ^ 52) (t .hi ⊖ k)) (c : Bound S (2 ^ 22) (t .lo)) where
   slot : Slot (shifted t k .hi)
   slot = power-slot (shifted t k .hi) (at (65 * 2 ^ 46) (fast-bounds b c tt .hi) tt)
 

@@ -148,16 +148,16 @@ module _ (x : Float) (v : ℕ) (is-v : v ≡ toBits binary64 (one ⊕ x)) (low :
   unfolding r
   r-size = inverse-size i inside
 
-  z'-size : Bounds S (2 ^ 47 + 2 ^ 36) (2 ^ 12) z'
+  z'-size : Bounds S (2 ^ 47 + 2 ^ 36) 4 z'
   unfolding z'
   z'-size =
       let f = fast-bounds z-size (at (2 ^ 31) (mul-bound (unit-left unit) r-size low-size tt tt) tt) tt in
-      record { hi = at (2 ^ 47 + 2 ^ 36) (f .hi) tt; lo = at (2 ^ 12) (f .lo) tt }
+      record { hi = at (2 ^ 47 + 2 ^ 36) (f .hi) tt; lo = at 4 (f .lo) tt }
 
-  poly : Bounds S (2 ^ 48 + 2 ^ 38) (2 ^ 27) (log2Poly2 z')
+  poly : Bounds S (2 ^ 48 + 2 ^ 38) (2 ^ 6) (log2Poly2 z')
   poly =
       let f = poly-size unit z'-size z'-size tt in
-      record { hi = at (2 ^ 48 + 2 ^ 38) (f .hi) tt; lo = at (2 ^ 27) (f .lo) tt }
+      record { hi = at (2 ^ 48 + 2 ^ 38) (f .hi) tt; lo = at (2 ^ 6) (f .lo) tt }
 
   -- ---- the cases
   joined : Logs (e ⊕ (a .hi ⊕ log2p1Polyeval1 z)) (sumOfLogs e a (log2Poly2 z')) → Logs (compoundfLog2p1Fast x) (compoundfLog2p1Accurate x)
@@ -249,7 +249,7 @@ module _ (x : Float) (v : ℕ) (is-v : v ≡ toBits binary64 (one ⊕ x)) (low :
         let low : Bound σ (2 ^ 54 + 2 ^ 10) (onePlus x .lo ⊗ s) = subst (Bound σ (2 ^ 54 + 2 ^ 10)) (sym (ap (λ (k : Float). onePlus x .lo ⊗ k) s-is ∙ mul-one binary64 (onePlus x .lo) (parted .lo-number .held))) (parted .near-low σ scale (two-parts q some) u-positive) in
         let unity : Bound S (2 ^ 53) r = subst (Bound S (2 ^ 53)) (sym r-is) (positive-bound one-is-1) in
         let f = fast-bounds itself (at (2 ^ 54 + 2 ^ 11) (mul-bound (unit-left scale) unity low tt tt) tt) tt in
-        let own : Bounds σ (3 * 2 ^ 53 + 2 ^ 20) (2 ^ 10) z' = record { hi = at (3 * 2 ^ 53 + 2 ^ 20) (f .hi) tt; lo = at (2 ^ 10) (f .lo) tt } in
+        let own : Bounds σ (3 * 2 ^ 53 + 2 ^ 20) 16 z' = record { hi = at (3 * 2 ^ 53 + 2 ^ 20) (f .hi) tt; lo = at 16 (f .lo) tt } in
         joined (near z (off .number) q (off .grid) some z-size (e-nil .0) (e-nil .1) (pair .hi-number) (pair .hi-zero) (pair .lo-number) (pair .lo-zero) z'-size own)
 
     near-cases : Logs (compoundfLog2p1Fast x) (compoundfLog2p1Accurate x) ⊎ Nil (compoundfLog2p1Fast x)

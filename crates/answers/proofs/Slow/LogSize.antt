@@ -53,40 +53,40 @@ unfolding higher droppingH log2p1Log2Poly entry
 higher-is z = refl
 
 -- one step, for a z on any scale
-next-size : {μ K k : ℕ} {v z : DoubleDouble} (i : ℕ) → i < 5 → Scale μ → Bounds S (2 ^ 49) (2 ^ 28) v → Bounds μ K k z → T (quickOk (2 ^ 54) (2 ^ 29) K k)
-    → Bounds μ (productK (2 ^ 54) K) (quickLoK (2 ^ 54) (2 ^ 29) K k) (nextLog2 v z (2 * i))
+next-size : {μ K k : ℕ} {v z : DoubleDouble} (i : ℕ) → i < 5 → Scale μ → Bounds S (2 ^ 49) (2 ^ 6) v → Bounds μ K k z → T (quickOk (2 ^ 54) (2 ^ 7) K k)
+    → Bounds μ (productK (2 ^ 54) K) (quickLoK (2 ^ 54) (2 ^ 7) K k) (nextLog2 v z (2 * i))
 unfolding nextLog2
 next-size {μ} {K} {k} {v} {z} i h s b c o =
     let t = fast-bounds (b .hi) (log-size (2 * i) (double i h)) tt in
     let lo = add-bound (b .lo) (add-bound (at 7 (t .lo) tt) (log-second i h) tt) tt in
-    quick-bounds (unit-left s) (record { hi = at (2 ^ 54) (t .hi) tt; lo = at (2 ^ 29) lo tt }) c o
+    quick-bounds (unit-left s) (record { hi = at (2 ^ 54) (t .hi) tt; lo = at (2 ^ 7) lo tt }) c o
   where
     double : (i : ℕ) → i < 5 → 2 * i < 18
     double i h = omega arith
 
 -- the terms of degree 2 and above, for |z| up to 1/64 and a little more
-higher-size : {z : DoubleDouble} → Bounds S (2 ^ 47 + 2 ^ 36) (2 ^ 12) z → Bounds S (2 ^ 49) (2 ^ 28) (quickMultF64 z (higher (z .hi)))
+higher-size : {z : DoubleDouble} → Bounds S (2 ^ 47 + 2 ^ 36) 4 z → Bounds S (2 ^ 49) (2 ^ 6) (quickMultF64 z (higher (z .hi)))
 higher-size {z} b =
     let one = unit-left unit in
     let h = subst (Bound S (2 ^ 54)) (higher-is (z .hi)) (at (2 ^ 54) (fmla-bound one (b .hi) (b .hi) (log-size 16 (lit< tt)) tt) tt) in
     let v = quick-f64-bounds one b h tt in
-    record { hi = at (2 ^ 49) (v .hi) tt; lo = at (2 ^ 28) (v .lo) tt }
+    record { hi = at (2 ^ 49) (v .hi) tt; lo = at (2 ^ 6) (v .lo) tt }
 
 abbrev Kept : DoubleDouble → Type 0
-Kept v = Bounds S (2 ^ 49) (2 ^ 28) v
+Kept v = Bounds S (2 ^ 49) (2 ^ 6) v
 
-keep : {v : DoubleDouble} → Bounds S (productK (2 ^ 54) (2 ^ 47 + 2 ^ 36)) (quickLoK (2 ^ 54) (2 ^ 29) (2 ^ 47 + 2 ^ 36) (2 ^ 12)) v → Kept v
-keep b = record { hi = at (2 ^ 49) (b .hi) tt; lo = at (2 ^ 28) (b .lo) tt }
+keep : {v : DoubleDouble} → Bounds S (productK (2 ^ 54) (2 ^ 47 + 2 ^ 36)) (quickLoK (2 ^ 54) (2 ^ 7) (2 ^ 47 + 2 ^ 36) 4) v → Kept v
+keep b = record { hi = at (2 ^ 49) (b .hi) tt; lo = at (2 ^ 6) (b .lo) tt }
 
 -- all of it: z at most 1/64 and a little more, and on a scale of its own
-pub poly-size : {μ K k : ℕ} {z : DoubleDouble} → Scale μ → Bounds S (2 ^ 47 + 2 ^ 36) (2 ^ 12) z → Bounds μ K k z → T (quickOk (2 ^ 54) (2 ^ 29) K k)
-    → Bounds μ (productK (2 ^ 54) K) (quickLoK (2 ^ 54) (2 ^ 29) K k) (log2Poly2 z)
+pub poly-size : {μ K k : ℕ} {z : DoubleDouble} → Scale μ → Bounds S (2 ^ 47 + 2 ^ 36) 4 z → Bounds μ K k z → T (quickOk (2 ^ 54) (2 ^ 7) K k)
+    → Bounds μ (productK (2 ^ 54) K) (quickLoK (2 ^ 54) (2 ^ 7) K k) (log2Poly2 z)
 unfolding log2Poly2
 poly-size {μ} {K} {k} {z} s b c o =
     let v = higher-size b in
     let t = fast-bounds (v .hi) (log-size 10 (lit< tt)) tt in
     let lo = add-bound (v .lo) (at 7 (t .lo) tt) tt in
-    let v10 = keep (quick-bounds (unit-left unit) (record { hi = at (2 ^ 54) (t .hi) tt; lo = at (2 ^ 29) lo tt }) b tt) in
+    let v10 = keep (quick-bounds (unit-left unit) (record { hi = at (2 ^ 54) (t .hi) tt; lo = at (2 ^ 7) lo tt }) b tt) in
     let v8 = keep (next-size 4 (lit< tt) unit v10 b tt) in
     let v6 = keep (next-size 3 (lit< tt) unit v8 b tt) in
     let v4 = keep (next-size 2 (lit< tt) unit v6 b tt) in

@@ -1,4 +1,4 @@
--- The two logarithms beside each other: wherever the fast one is l, the accurate one is at most 6.5 × |l| in its hi and 2^-18 × |l| in its lo (`Logs`). Three cases:
+-- The two logarithms beside each other: wherever the fast one is l, the accurate one is at most 6.5 × |l| in its hi and 2^-39 × |l| in its lo (`Logs`). Three cases:
 -- the exponent e of 1 + x is not 0 (`far-whole`); e is 0 and the inverse is not 1 (`far-part`); e is 0 and the inverse is 1 (`near`), where z is 1 + x less 1 and
 -- both logarithms are on the scale of z. Assumes nothing.
 use mathlib.Core.Path.{_≡_, sym, ap, _∙_, subst}
@@ -25,7 +25,7 @@ pub record Logs (l : Float) (L : DoubleDouble) : Type 0 where
   pub scale : Scale μ
   pub size : 2 ^ 53 * μ ≤ mag l
   pub above : Bound S (2 ^ 62) l
-  pub accurate : Bounds μ (13 * 2 ^ 52) (2 ^ 35) L
+  pub accurate : Bounds μ (13 * 2 ^ 52) (2 ^ 14) L
 
 large-scale : 2 ^ 60 ≤ S
 unfolding S
@@ -98,7 +98,7 @@ module _ (E : ℕ) (least : 1 ≤ E) (most : E ≤ 150) where
       thirds : (x y : ℕ) → 3 * x ≤ 3 * y → x ≤ y
       thirds x y h = omega arith
 
-  pub far-whole : {e w : Float} {a b : DoubleDouble} → Number e → mag e ≡ E * perOne → Bound S (35 * 2 ^ 47) w → Bounds S (33 * 2 ^ 47) 1 a → Bounds S (2 ^ 48 + 2 ^ 38) (2 ^ 27) b
+  pub far-whole : {e w : Float} {a b : DoubleDouble} → Number e → mag e ≡ E * perOne → Bound S (35 * 2 ^ 47) w → Bounds S (33 * 2 ^ 47) 1 a → Bounds S (2 ^ 48 + 2 ^ 38) (2 ^ 6) b
       → Logs (e ⊕ w) (sumOfLogs e a b)
   far-whole {e} {w} {a} {b} n m p q r =
       let one : Bound ν (2 ^ 53) e = record { scale = wide; number = n; size = le-of-eq (m ∙ e-size) } in
@@ -110,7 +110,7 @@ module _ (E : ℕ) (least : 1 ≤ E) (most : E ≤ 150) where
         scale = narrow;
         size = from-e (mag e) (mag (e ⊕ w)) ν μ eighths (m ∙ e-size) (not-less off);
         above = onto S (2 ^ 62) unit sum (on-one _ (2 ^ 62) (lit≤ tt));
-        accurate = onto-both μ (13 * 2 ^ 52) (2 ^ 35) narrow logs (on-eighths _ (13 * 2 ^ 52) (lit≤ tt)) (on-eighths _ (2 ^ 35) (lit≤ tt));
+        accurate = onto-both μ (13 * 2 ^ 52) (2 ^ 14) narrow logs (on-eighths _ (13 * 2 ^ 52) (lit≤ tt)) (on-eighths _ (2 ^ 14) (lit≤ tt));
       }
     where
       from-e : (e l v u : ℕ) → 3 * v ≡ 8 * u → e ≡ 2 ^ 53 * v → e ≤ l + 39 * 2 ^ 47 * v → 2 ^ 53 * u ≤ l
@@ -123,7 +123,7 @@ nil-bound μ s n e = record { scale = s; number = n; size = le-trans (le-of-eq e
 
 -- the logarithm is the inverse's, |a|, but for 48 × 2^42 and little more; the scale is what is left of it
 module _ {e p : Float} {a b : DoubleDouble} (n : Number e) (m : mag e ≡ 0) (r : Bound S (47 * 2 ^ 42 + 2 ^ 36) p) (least : 35 * 2 ^ 43 * S ≤ mag (a .hi)) (q : Bounds S (33 * 2 ^ 47) 1 a)
-    (l : Bounds S (2 ^ 48 + 2 ^ 38) (2 ^ 27) b) where
+    (l : Bounds S (2 ^ 48 + 2 ^ 38) (2 ^ 6) b) where
   left : ℕ
   left = mag (a .hi) - (4 + 48 * 2 ^ 42) * S
 
@@ -185,10 +185,10 @@ module _ {e p : Float} {a b : DoubleDouble} (n : Number e) (m : mag e ≡ 0) (r 
           enough : (a h s : ℕ) → 2 ^ 60 ≤ s → 35 * 2 ^ 43 * s ≤ a → h ≤ a + (2 ^ 48 + 2 ^ 39) * s → 2 * h + 13 * 2 ^ 53 ≤ 13 * (a - (4 + 48 * 2 ^ 42) * s)
           enough a h s g l k = omega arith
 
-      lo-of : (a s : ℕ) → 2 ^ 60 ≤ s → 35 * 2 ^ 43 * s ≤ a → 2 ^ 28 * s ≤ 2 ^ 35 * ((a - (4 + 48 * 2 ^ 42) * s) / 2 ^ 53)
+      lo-of : (a s : ℕ) → 2 ^ 60 ≤ s → 35 * 2 ^ 43 * s ≤ a → 2 ^ 7 * s ≤ 2 ^ 14 * ((a - (4 + 48 * 2 ^ 42) * s) / 2 ^ 53)
       lo-of a s g l = over s (a - (4 + 48 * 2 ^ 42) * s) (enough a s g l)
         where
-          over : (s n : ℕ) → 2 ^ 46 * s + 2 ^ 53 ≤ n → 2 ^ 28 * s ≤ 2 ^ 35 * (n / 2 ^ 53)
+          over : (s n : ℕ) → 2 ^ 46 * s + 2 ^ 53 ≤ n → 2 ^ 7 * s ≤ 2 ^ 14 * (n / 2 ^ 53)
           over s n h = omega arith
 
           enough : (a s : ℕ) → 2 ^ 60 ≤ s → 35 * 2 ^ 43 * s ≤ a → 2 ^ 46 * s + 2 ^ 53 ≤ a - (4 + 48 * 2 ^ 42) * s
@@ -263,7 +263,7 @@ module _ (z : Float) (n : Number z) (q : ℕ) (size : mag z ≡ q * S) (some : 0
           third : (m k : ℕ) → 0 < k → 91 * k * (2 ^ 53 - 1) ≤ m * 2 ^ 6 + 2 ^ 5 → 91 * 2 ^ 47 * k ≤ m + 4 * k
           third m k k0 h = omega arith
 
-  pub near : {e : Float} {a z' : DoubleDouble} → Number e → mag e ≡ 0 → Number (a .hi) → mag (a .hi) ≡ 0 → Number (a .lo) → mag (a .lo) ≡ 0 → Bounds S (2 ^ 47 + 2 ^ 36) (2 ^ 12) z' → Bounds (q * 2 ^ 968) (3 * 2 ^ 53 + 2 ^ 20) (2 ^ 10) z'
+  pub near : {e : Float} {a z' : DoubleDouble} → Number e → mag e ≡ 0 → Number (a .hi) → mag (a .hi) ≡ 0 → Number (a .lo) → mag (a .lo) ≡ 0 → Bounds S (2 ^ 47 + 2 ^ 36) 4 z' → Bounds (q * 2 ^ 968) (3 * 2 ^ 53 + 2 ^ 20) 16 z'
       → Logs (e ⊕ (a .hi ⊕ log2p1Polyeval1 z)) (sumOfLogs e a (log2Poly2 z'))
   unfolding p σ
   near {e} {a} {z'} ne me nh mh nl ml bounds own =
@@ -278,7 +278,7 @@ module _ (z : Float) (n : Number z) (q : ℕ) (size : mag z ≡ q * S) (some : 0
         scale = z-scale;
         size = from-p (mag (z ⊗ factor z)) (mag (e ⊕ (a .hi ⊕ z ⊗ factor z))) σ p-least (not-less off);
         above = onto S (2 ^ 62) unit l (mul-le-mul (lit≤ tt) σ-le);
-        accurate = record { hi = at (13 * 2 ^ 52) (logs .hi) tt; lo = at (2 ^ 35) (logs .lo) tt };
+        accurate = record { hi = at (13 * 2 ^ 52) (logs .hi) tt; lo = at (2 ^ 14) (logs .lo) tt };
       })
     where
       from-p : (p l k : ℕ) → 91 * 2 ^ 47 * k ≤ p + 4 * k → p ≤ l + (8 + 8) * k → 2 ^ 53 * k ≤ l

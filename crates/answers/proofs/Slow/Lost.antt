@@ -157,7 +157,7 @@ before-logs x n h =
     let c = fast-bounds (nil-bound (1 * 2 ^ 968) own-scale nil-number refl) (mul-bound (unit-left own-scale) unity (subst (Bound (1 * 2 ^ 968) (2 ^ 53)) same Y) tt tt) tt in
     subst (λ (l : Float). Logs l (sumOfLogs (ofInt binary64 (pos 0)) (pairEntry log2p1CompoundfLog2Inv 19) (log2Poly2 (left x)))) (sym before-one)
     (near (fin true 1 (negsuc 52)) (z-is .0) 1 (z-is .1) (lit< tt) (z-is .2) (no-power .0) (no-power .1) (one-19 .hi-number) (one-19 .hi-zero) (one-19 .lo-number) (one-19 .lo-zero)
-    (record { hi = at (2 ^ 47 + 2 ^ 36) (b .hi) tt; lo = at (2 ^ 12) (b .lo) tt }) (record { hi = at (3 * 2 ^ 53 + 2 ^ 20) (c .hi) tt; lo = at (2 ^ 10) (c .lo) tt }))
+    (record { hi = at (2 ^ 47 + 2 ^ 36) (b .hi) tt; lo = at 4 (b .lo) tt }) (record { hi = at (3 * 2 ^ 53 + 2 ^ 20) (c .hi) tt; lo = at 16 (c .lo) tt }))
 
 pub lost-logs : (x : Float) → Number x → mag x ≤ S → onePlus x ≡ record { lo = x; hi = one } → Logs (compoundfLog2p1Fast x) (compoundfLog2p1Accurate x) ⊎ Nil (compoundfLog2p1Fast x)
 lost-logs x n h e =

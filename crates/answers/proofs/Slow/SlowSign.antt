@@ -1,5 +1,5 @@
 -- The slow path gives a number whose sign is clear (`slow-clear`). Its two logarithms are on one scale, so that where the fast one times y is at most 150 in size, the
--- accurate one times y is below 1000 and has a second part below 2^-8, and the end of the path is as `ExpSign` has it. So no index and no k is cut (`slow-index`,
+-- accurate one times y is below 1000 and has a second part of at most 2^-31, and the end of the path is as `ExpSign` has it. So no index and no k is cut (`slow-index`,
 -- `slow-k`). Assumes nothing.
 use mathlib.Core.Path.{_≡_, refl, sym, ap, ap₂, _∙_, subst}
 use mathlib.Core.Logic.{_⊎_, inl, inr}
@@ -220,7 +220,7 @@ module _ (l y : Float) (L : DoubleDouble) (logs : Logs l L) (Y : Number y) (y-mo
           together : (s : ℕ) → 151 * (s * s) + s * s ≡ 152 * (s * s)
           together s = omega arith
 
-  pub exponent-bounds : Bounds (152 * S) (productK (13 * 2 ^ 52) (2 ^ 53)) (quickF64LoK (13 * 2 ^ 52) (2 ^ 35) (2 ^ 53)) (quickMultF64 L y)
+  pub exponent-bounds : Bounds (152 * S) (productK (13 * 2 ^ 52) (2 ^ 53)) (quickF64LoK (13 * 2 ^ 52) (2 ^ 14) (2 ^ 53)) (quickMultF64 L y)
   exponent-bounds = quick-f64-bounds through (logs .accurate) y-own tt
 
   pub first-part : mag (quickMultF64 L y .hi) ≤ 1000 * perOne
@@ -231,8 +231,8 @@ module _ (l y : Float) (L : DoubleDouble) (logs : Logs l L) (Y : Number y) (y-mo
       go : (s : ℕ) → 1000 * 2 ^ 53 * s ≡ 1000 * (s * 2 ^ 53)
       go s = omega arith
 
-  pub second-part : Bound S (2 ^ 45) (quickMultF64 L y .lo)
-  second-part = onto S (2 ^ 45) unit (exponent-bounds .lo) (le-trans (le-of-eq (sym (mul-assoc (quickF64LoK (13 * 2 ^ 52) (2 ^ 35) (2 ^ 53)) 152 S))) (mul-le-mul-right S (lit≤ tt)))
+  pub second-part : Bound S (2 ^ 22) (quickMultF64 L y .lo)
+  second-part = onto S (2 ^ 22) unit (exponent-bounds .lo) (le-trans (le-of-eq (sym (mul-assoc (quickF64LoK (13 * 2 ^ 52) (2 ^ 14) (2 ^ 53)) 152 S))) (mul-le-mul-right S (lit≤ tt)))
 
 -- ---- 2 to that power
 positive-clear : {a b : ℕ} {x : Float} → Positive a b x → 0 < a → T (clear x)
@@ -302,7 +302,7 @@ tested-small : (k h : Float) → isNearOne k h ≡ true → T (le (absolute h) l
 unfolding isNearOne
 tested-small k h e = and-r (eq k Special.zero) (le (absolute h) least-exponent) (subst T (sym e) tt)
 
-pub exp2-clear : (t : DoubleDouble) → Number (t .hi) → Bound S (2 ^ 45) (t .lo) → T (clear (exp2Accurate t))
+pub exp2-clear : (t : DoubleDouble) → Number (t .hi) → Bound S (2 ^ 22) (t .lo) → T (clear (exp2Accurate t))
 unfolding exp2Accurate
 exp2-clear t n b = go (isNearOne (nearestWhole (t .hi)) (t .hi)) refl
   where
@@ -348,7 +348,7 @@ unclamped (fin false m e) h = second (ltb (1000 * down e) (m * up e * 1)) (pos 1
 record Exponent (t : DoubleDouble) : Type 0 where
   number : Number (t .hi)
   first : mag (t .hi) ≤ 1000 * perOne
-  second : Bound S (2 ^ 45) (t .lo)
+  second : Bound S (2 ^ 22) (t .lo)
 
 module _ (x y : Float) (tabled : Tabled x y) (low : le (compoundfLog2p1Fast x ⊗ y) (fin true 75 (pos 1)) ≡ false) (high : lt (compoundfLog2p1Fast x ⊗ y) (fin false 1 (pos 7)) ≡ true)
     (apart : leb (toBits binary64 (compoundfLog2p1Fast x ⊗ y) * 2 % 2 ^ 64) 0x3e6715476ba97f14 ≡ false) where
