@@ -1,100 +1,75 @@
 -- The order of two finite f64s in units of 2^-1074 (`le-units`, `le-of-units`); values between two positive numbers on the scale of 1 (`Positive`), through a product
 -- and a sum; the patterns of such values (`positive-bits`, `bits-from-two`). Assumes nothing.
-use mathlib.Core.Path.{_≡_, sym, ap, ap₂, _∙_, subst}
+use mathlib.Core.Path.{_≡_, refl, sym, ap, ap₂, _∙_, subst}
 use mathlib.Core.Logic.{_⊎_, inl, inr}
 use mathlib.Core.Bool.{Bool, true, false, not, _&&_, _||_}
 use Prim.Native.Nat.{ℕ, _+_, _-_, _*_, _/_, _^_, _≤_, _<_}
-use native.Mathlib.Nat.{le-trans, le-of-eq, le-antisymm, lt-of-le-of-lt, lt-of-lt-of-le, le-of-mul-le-mul-right, mul-comm, mul-right-comm, mul-le-mul, mul-le-mul-right, mul-pos, add-mul, add-zero, zero-add, le-add-right, mul-mul-mul-comm, mul-lt-mul-of-pos-right, not-le-of-lt, div-div-eq-div-mul, div-mul-le-self, div-lt-iff-lt-mul}
+use native.Mathlib.Nat.{le-trans, le-of-eq, le-antisymm, lt-of-le-of-lt, lt-of-lt-of-le, le-of-mul-le-mul-right, mul-comm, mul-right-comm, mul-le-mul, mul-le-mul-right, mul-pos, add-mul, add-zero, zero-add, le-add-right, mul-mul-mul-comm, mul-lt-mul-of-pos-right, not-le-of-lt, add-comm, add-mul-div-right, div-div-eq-div-mul, div-mul-le-self, div-lt-iff-lt-mul}
 use native.Mathlib.Omega.{arith}
 use lib.Dec.{T, leb, ltb, eqb, leb→le, nleb→lt, ltb→lt, nltb→le, eqb→eq, lit≤, lit<}
 use lib.Pow.{pow-pos}
+use lib.IntN.{ℤ}
 use lib.Ieee.{Float, nan, inf, fin, binary64, up, down, size, le, below, level, fits, toBits}
 use lib.Ieee.Fits.{and-i, and-l, and-r, eq→eqb, down-pos}
 use Rattle.floats.specs.Operations.{_⊕_, _⊗_}
 use Rattle.floats.proofs.Laws.Place.{size-exact, place-below, place-above}
-use Rattle.floats.proofs.Laws.Order.{bits-of-clear, under-zero}
+use Rattle.floats.proofs.Laws.Order.{le-below, bits-of-clear, under-zero}
 use Rattle.floats.proofs.Laws.Sums.{above, under, above-times, under-times, le-says, SizeAtMost}
 use Rattle.floats.proofs.Laws.Units.{exponent, in-units}
-use Rattle.bounds.proofs.Values.{perOne, plus, less, mag, mag-of, one-side, Number, cross, cross-under, joined}
+use Rattle.bounds.proofs.Values.{perOne, plus, less, mag, mag-of, one-side, Number, of-numbers, cross, cross-under, joined}
 use Rattle.bounds.proofs.Operation.{limit, add-near, mul-near}
-use Rattle.bounds.proofs.Sums.{sum-small}
+use Rattle.bounds.proofs.Sums.{past, sum-small}
 use Rattle.bounds.proofs.Scales.{S, S-pos, unit, one-is, Bound, within, tested, unit-left, ok, both-sizes, one-part, small-limit, productK, mul-limit, mul-bound, add-bound}
 use Rattle.bounds.proofs.Distances.{parts, Apart, apartK, add-apart, not-below}
 
 -- ---- the order
+-- a side of it, in units
+side : (s : Bool) (m : ℕ) (e : ℤ) (t : Bool) (n : ℕ) (d : ℤ) → T (fits binary64 (fin s m e)) → T (fits binary64 (fin t n d))
+    → (above s (m * up e) * down d + under t (n * up d) * down e) * 2 ^ 1074 ≡ (plus (fin s m e) + less (fin t n d)) * (down e * down d)
+side s m e t n d f g =
+    joined (above s (m * up e)) (under t (n * up d)) (down e) (down d) (plus (fin s m e)) (less (fin t n d)) (2 ^ 1074) (cross s (m * up e) _ (down e) (2 ^ 1074) (in-units binary64 s m e f))
+    (cross-under t (n * up d) _ (down d) (2 ^ 1074) (in-units binary64 t n d g))
+
+-- the other side, over the same denominator
+other-side : (s : Bool) (m : ℕ) (e : ℤ) (t : Bool) (n : ℕ) (d : ℤ) → T (fits binary64 (fin s m e)) → T (fits binary64 (fin t n d))
+    → (above t (n * up d) * down e + under s (m * up e) * down d) * 2 ^ 1074 ≡ (plus (fin t n d) + less (fin s m e)) * (down e * down d)
+other-side s m e t n d f g = side t n d s m e g f ∙ ap (λ (z : ℕ). (plus (fin t n d) + less (fin s m e)) * z) (mul-comm (down d) (down e))
+
 pub le-units : (x y : Float) → Number x → Number y → T (le x y) → plus x + less y ≤ plus y + less x
-unfolding perOne
-le-units nan y p q h = absurd (p .plain)
-le-units (inf s) y p q h = absurd (p .plain)
-le-units (fin s m e) nan p q h = absurd (q .plain)
-le-units (fin s m e) (inf t) p q h = absurd (q .plain)
-le-units (fin s m e) (fin t n d) p q h = go (in-units binary64 s m e (p .held)) (in-units binary64 t n d (q .held))
-  where
-    X : ℕ
-    X = m * 2 ^ exponent 1074 e
-
-    Y : ℕ
-    Y = n * 2 ^ exponent 1074 d
-
-    go : m * up e * 2 ^ 1074 ≡ X * down e → n * up d * 2 ^ 1074 ≡ Y * down d → above s X + under t Y ≤ above t Y + under s X
-    go a b =
-        let l : (above s (m * up e) * down d + under t (n * up d) * down e) * 2 ^ 1074 ≡ (above s X + under t Y) * (down e * down d) =
-        joined (above s (m * up e)) (under t (n * up d)) (down e) (down d) (above s X) (under t Y) (2 ^ 1074) (cross s (m * up e) X (down e) (2 ^ 1074) a) (cross-under t (n * up d) Y (down d) (2 ^ 1074) b) in
-        let r : (above t (n * up d) * down e + under s (m * up e) * down d) * 2 ^ 1074 ≡ (above t Y + under s X) * (down d * down e) =
-        joined (above t (n * up d)) (under s (m * up e)) (down d) (down e) (above t Y) (under s X) (2 ^ 1074) (cross t (n * up d) Y (down d) (2 ^ 1074) b) (cross-under s (m * up e) X (down e) (2 ^ 1074) a) in
-        le-of-mul-le-mul-right
-        (le-trans (le-of-eq (sym l)) (le-trans (mul-le-mul-right (2 ^ 1074) (le-says s m e t n d h)) (le-of-eq (r ∙ ap (λ (z : ℕ). (above t Y + under s X) * z) (mul-comm (down d) (down e))))))
-        (mul-pos (down-pos e) (down-pos d))
+le-units =
+    of-numbers (λ (x y : Float). T (le x y) → plus x + less y ≤ plus y + less x)
+    (λ s m e t n d f g h.
+    le-of-mul-le-mul-right (le-trans (le-of-eq (sym (side s m e t n d f g))) (le-trans (mul-le-mul-right (2 ^ 1074) (le-says s m e t n d h)) (le-of-eq (other-side s m e t n d f g))))
+    (mul-pos (down-pos e) (down-pos d)))
 
 -- ±a ≤ ±b, as the test has it
-at-most : (a b : ℕ) (u : Bool) → T u → a ≤ b → T (ltb a b || (eqb a b && u))
-at-most a b u t h = go (ltb a b) (nltb→le a b)
+at-most : (a b : ℕ) → a ≤ b → T (ltb a b || (eqb a b && true))
+at-most a b h = go (ltb a b) (nltb→le a b)
   where
-    go : (v : Bool) → (T (not v) → b ≤ a) → T (v || (eqb a b && u))
+    go : (v : Bool) → (T (not v) → b ≤ a) → T (v || (eqb a b && true))
     go true g = tt
-    go false g = and-i (eqb a b) u (eq→eqb (le-antisymm h (g tt))) t
-
-turned : (a b : ℕ) → b ≤ a → T (ltb b a || (eqb a b && true))
-turned a b h = go (ltb b a) (nltb→le b a)
-  where
-    go : (v : Bool) → (T (not v) → a ≤ b) → T (v || (eqb a b && true))
-    go true g = tt
-    go false g = and-i (eqb a b) true (eq→eqb (le-antisymm (g tt) h)) tt
+    go false g = and-i (eqb a b) true (eq→eqb (le-antisymm h (g tt))) tt
 
 in-order : (s : Bool) (a : ℕ) (t : Bool) (b : ℕ) → above s a + under t b ≤ above t b + under s a → T (below s a t b || level s a t b)
-in-order false a false b h = at-most a b true tt (omega (arith, h))
-in-order true a true b h = turned a b (omega (arith, h))
+in-order false a false b h = at-most a b (omega (arith, h))
+in-order true a true b h = le-below a b (omega (arith, h))
 in-order true a false b h = under-zero a b
 in-order false a true b h = subst (λ (k : ℕ). T (eqb k b && (false || eqb k 0))) (sym (zeroes a b h .0)) (subst (λ (k : ℕ). T (eqb 0 k && (false || eqb 0 0))) (sym (zeroes a b h .1)) tt)
   where
     zeroes : (a b : ℕ) → a + b ≤ 0 + 0 → (a ≡ 0) × (b ≡ 0)
     zeroes a b h = (omega arith, omega arith)
 
--- the two sides in units
-units-of : (s t : Bool) (a b i j X Y w : ℕ) → a * w ≡ X * i → b * w ≡ Y * j → (above s (a * j) + under t (b * i)) * w ≡ (above s X + under t Y) * (i * j)
-units-of s t a b i j X Y w e d =
-    ap₂ (λ (x y : ℕ). (x + y) * w) (above-times s a j) (under-times t b i) ∙ joined (above s a) (under t b) i j (above s X) (under t Y) w (cross s a X i w e) (cross-under t b Y j w d)
-
 pub le-of-units : (x y : Float) → Number x → Number y → plus x + less y ≤ plus y + less x → T (le x y)
-unfolding le perOne
-le-of-units nan y p q h = absurd (p .plain)
-le-of-units (inf s) y p q h = absurd (p .plain)
-le-of-units (fin s m e) nan p q h = absurd (q .plain)
-le-of-units (fin s m e) (inf t) p q h = absurd (q .plain)
-le-of-units (fin s m e) (fin t n d) p q h = go (in-units binary64 s m e (p .held)) (in-units binary64 t n d (q .held))
-  where
-    X : ℕ
-    X = m * 2 ^ exponent 1074 e
-
-    Y : ℕ
-    Y = n * 2 ^ exponent 1074 d
-
-    go : m * up e * 2 ^ 1074 ≡ X * down e → n * up d * 2 ^ 1074 ≡ Y * down d → T (below s (m * up e * down d) t (n * up d * down e) || level s (m * up e * down d) t (n * up d * down e))
-    go i j =
-        let l = units-of s t (m * up e) (n * up d) (down e) (down d) X Y (2 ^ 1074) i j in
-        let r = units-of t s (n * up d) (m * up e) (down d) (down e) Y X (2 ^ 1074) j i ∙ ap (λ (z : ℕ). (above t Y + under s X) * z) (mul-comm (down d) (down e)) in
-        in-order s (m * up e * down d) t (n * up d * down e)
-        (le-of-mul-le-mul-right (le-trans (le-of-eq l) (le-trans (mul-le-mul-right (down e * down d) h) (le-of-eq (sym r)))) (pow-pos 1074))
+unfolding le
+le-of-units =
+    of-numbers (λ (x y : Float). plus x + less y ≤ plus y + less x → T (le x y))
+    (λ s m e t n d f g h.
+    let a = m * up e in
+    let b = n * up d in
+    let k : above s a * down d + under t b * down e ≤ above t b * down e + under s a * down d =
+    le-of-mul-le-mul-right (le-trans (le-of-eq (side s m e t n d f g)) (le-trans (mul-le-mul-right (down e * down d) h) (le-of-eq (sym (other-side s m e t n d f g))))) (pow-pos 1074) in
+    in-order s (a * down d) t (b * down e)
+    (le-trans (le-of-eq (ap₂ _+_ (above-times s a (down d)) (under-times t b (down e)))) (le-trans k (le-of-eq (sym (ap₂ _+_ (above-times t b (down e)) (under-times s a (down d))))))))
 
 -- at most b in size, as a whole number
 pub size-in-units : (b : ℕ) (x : Float) → T (fits binary64 x) → SizeAtMost b x → Number x × (mag x ≤ b * perOne)
@@ -256,20 +231,24 @@ bits-from-two {x} p = go x (p .number) (p .clear) (p .least) (p .most)
         let X = k * 2 ^ exponent 1074 e in
         bits-of-clear binary64 k e (n .held) ∙ ap (λ (z : ℕ). (z - 53) * 2 ^ 52 + X / 2 ^ (z - 53)) (two-digits X l m)
 
--- the pattern without its last digits: the place among the 64ths, and among the 32nds
+-- the pattern without its last digits, 2^52 being v × u: the place among the 64ths, and among the 32nds
+place-among : {x : Float} (u v : ℕ) → 0 < u → v * u ≡ 2 ^ 52 → Positive (2 ^ 54) (2 ^ 55 - 1) x → toBits binary64 x / u ≡ 1023 * v + plus x / (2 ^ 1023 * u)
+place-among {x} u v h e p =
+    ap (λ (n : ℕ). n / u) (bits-from-two p ∙ ap (λ (n : ℕ). 1023 * n + plus x / 2 ^ 1023) (sym e) ∙ turned v u (plus x / 2 ^ 1023))
+    ∙ add-mul-div-right (plus x / 2 ^ 1023) (1023 * v) h
+    ∙ ap (λ (n : ℕ). n + 1023 * v) (div-div-eq-div-mul (plus x) (2 ^ 1023) u)
+    ∙ add-comm (plus x / (2 ^ 1023 * u)) (1023 * v)
+  where
+    turned : (v u n : ℕ) → 1023 * (v * u) + n ≡ n + 1023 * v * u
+    turned v u n = omega arith
+
 pub place-in-64ths : {x : Float} → Positive (2 ^ 54) (2 ^ 55 - 1) x → toBits binary64 x / 2 ^ 45 ≡ 1023 * 2 ^ 7 + plus x / (2 ^ 47 * S)
 unfolding S
-place-in-64ths {x} p = ap (λ (n : ℕ). n / 2 ^ 45) (bits-from-two p) ∙ go (plus x / 2 ^ 1023) ∙ ap (λ (n : ℕ). 1023 * 2 ^ 7 + n) (div-div-eq-div-mul (plus x) (2 ^ 1023) (2 ^ 45))
-  where
-    go : (n : ℕ) → (1023 * 4503599627370496 + n) / 2 ^ 45 ≡ 1023 * 2 ^ 7 + n / 2 ^ 45
-    go n = omega arith
+place-in-64ths p = place-among (2 ^ 45) (2 ^ 7) (lit< tt) refl p
 
 pub place-in-32nds : {x : Float} → Positive (2 ^ 54) (2 ^ 55 - 1) x → toBits binary64 x / 2 ^ 46 ≡ 1023 * 2 ^ 6 + plus x / (2 ^ 48 * S)
 unfolding S
-place-in-32nds {x} p = ap (λ (n : ℕ). n / 2 ^ 46) (bits-from-two p) ∙ go (plus x / 2 ^ 1023) ∙ ap (λ (n : ℕ). 1023 * 2 ^ 6 + n) (div-div-eq-div-mul (plus x) (2 ^ 1023) (2 ^ 46))
-  where
-    go : (n : ℕ) → (1023 * 4503599627370496 + n) / 2 ^ 46 ≡ 1023 * 2 ^ 6 + n / 2 ^ 46
-    go n = omega arith
+place-in-32nds p = place-among (2 ^ 46) (2 ^ 6) (lit< tt) refl p
 
 -- a quotient by u, from both sides
 pub quotient : (X u : ℕ) → 0 < u → (X / u * u ≤ X) × (X < (X / u + 1) * u)
@@ -294,9 +273,6 @@ positive-sum {a} {b} {c} {d} {x} {y} p q t u =
       most = le-trans (r .2) (le-of-eq (sym (add-mul (b + d) e S ∙ ap (λ (k : ℕ). k + e * S) (add-mul b d S))));
     }
   where
-    past : (X Y D E : ℕ) → D ≤ E * 2 ^ 53 → X * 2 ^ 53 ≤ Y * 2 ^ 53 + D → X ≤ Y + E
-    past X Y D E e h = omega arith
-
     finish : (p n q m r l a b c d E : ℕ) → (r ≡ 0) ⊎ (l ≡ 0) → n ≡ 0 → m ≡ 0 → a ≤ p → p ≤ b → c ≤ q → q ≤ d → E < a + c → r + (n + m) ≤ l + (p + q) + E → l + (p + q) ≤ r + (n + m) + E
         → (l ≡ 0) × (a + c - E ≤ r) × (r ≤ b + d + E)
     finish p n q m r l a b c d E (inl z) N M ap pb cq qd u g h = (omega arith, omega arith, omega arith)
@@ -305,7 +281,7 @@ positive-sum {a} {b} {c} {d} {x} {y} p q t u =
     go : (p n q m r l a b c d E D : ℕ) → (r ≡ 0) ⊎ (l ≡ 0) → n ≡ 0 → m ≡ 0 → a ≤ p → p ≤ b → c ≤ q → q ≤ d → D ≤ E * 2 ^ 53 → E < a + c
         → (r + (n + m)) * 2 ^ 53 ≤ (l + (p + q)) * 2 ^ 53 + D → (l + (p + q)) * 2 ^ 53 ≤ (r + (n + m)) * 2 ^ 53 + D → (l ≡ 0) × (a + c - E ≤ r) × (r ≤ b + d + E)
     go p n q m r l a b c d E D z N M ap pb cq qd e u g h =
-        finish p n q m r l a b c d E z N M ap pb cq qd u (past (r + (n + m)) (l + (p + q)) D E e g) (past (l + (p + q)) (r + (n + m)) D E e h)
+        finish p n q m r l a b c d E z N M ap pb cq qd u (past (r + (n + m)) (l + (p + q)) D E g e) (past (l + (p + q)) (r + (n + m)) D E h e)
 
 -- of two values one is at most the other; where x is not, it is the larger, strictly
 pub gt-of-not-le : (x y : Float) → Number x → Number y → le x y ≡ false → plus y + less x < plus x + less y

@@ -13,7 +13,7 @@ use Rattle.floats.proofs.Laws.Sums.{add-turned}
 use Rattle.double_double.specs.DoubleDouble.{fromFullExactAdd, fullAddF64, ddFmla}
 use Rattle.bounds.proofs.Values.{plus, less, mag, one-side}
 use Rattle.bounds.proofs.Operation.{limit, add-near}
-use Rattle.bounds.proofs.Sums.{sum-small}
+use Rattle.bounds.proofs.Sums.{past, rounded-part, sum-small}
 use Rattle.bounds.proofs.Scales.{Bound, both-sizes, one-part, small-limit, ok, sumK, productK, ProductScale, add-bound, dekker-bounds, full-bounds, fmlaLoK, fmlaOk, fmla-parts}
 
 pub record Apart (μ K : ℕ) (x y : Float) : Type 0 where
@@ -44,10 +44,7 @@ apartK K L = L + ((K + L) / 2 ^ 53 + 1)
 
 -- k is at most 2^53 times (k / 2^53 + 1)
 pub parts : (k μ : ℕ) → k * μ ≤ (k / 2 ^ 53 + 1) * μ * 2 ^ 53
-parts k μ = le-trans (mul-le-mul-right μ (over k)) (le-of-eq (mul-right-comm (k / 2 ^ 53 + 1) (2 ^ 53) μ))
-  where
-    over : (a : ℕ) → a ≤ (a / 2 ^ 53 + 1) * 2 ^ 53
-    over a = omega arith
+parts k μ = le-trans (mul-le-mul-right μ (rounded-part k)) (le-of-eq (mul-right-comm (k / 2 ^ 53 + 1) (2 ^ 53) μ))
 
 -- x + y is off x by y, and from the exact sum by a rounding
 pub add-apart : {μ K L : ℕ} {x y : Float} → Bound μ K x → Bound μ L y → T (ok (K + L)) → Apart μ (apartK K L) (x ⊕ y) x
@@ -56,16 +53,13 @@ add-apart {μ} {K} {L} {x} {y} p q t =
     let c = add-near d (p .number) (q .number) (sum-small x y d (both-sizes p q)) (one-part d limit (small-limit (K + L) μ t (p .scale .bounded)) .0) in
     let E = ((K + L) / 2 ^ 53 + 1) * μ in
     let z = x ⊕ y in
-    let g = past (plus z + (less x + less y)) (less z + (plus x + plus y)) d E (parts (K + L) μ) (c .most) in
-    let h = past (less z + (plus x + plus y)) (plus z + (less x + less y)) d E (parts (K + L) μ) (c .least) in
+    let g = past (plus z + (less x + less y)) (less z + (plus x + plus y)) d E (c .most) (parts (K + L) μ) in
+    let h = past (less z + (plus x + plus y)) (plus z + (less x + less y)) d E (c .least) (parts (K + L) μ) in
     record {
       over = above (plus x) (less x) (plus y) (less y) (plus z) (less z) (L * μ) E (apartK K L * μ) (add-mul L ((K + L) / 2 ^ 53 + 1) μ) (q .size) g;
       under = below (plus x) (less x) (plus y) (less y) (plus z) (less z) (L * μ) E (apartK K L * μ) (add-mul L ((K + L) / 2 ^ 53 + 1) μ) (q .size) h;
     }
   where
-    past : (a b d E : ℕ) → d ≤ E * 2 ^ 53 → a * 2 ^ 53 ≤ b * 2 ^ 53 + d → a ≤ b + E
-    past a b d E e h = omega arith
-
     above : (p n q m r l Y E k : ℕ) → k ≡ Y + E → q + m ≤ Y → r + (n + m) ≤ l + (p + q) + E → r + n ≤ l + p + k
     above p n q m r l Y E k e s h = omega arith
 

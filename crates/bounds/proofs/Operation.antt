@@ -85,31 +85,31 @@ pub record Small (p n d : ℕ) : Type 0 where
   pub upper : p ≤ n + d
   pub lower : n ≤ p + d
 
+-- k is p - n, and c is k but for a rounding
+over-it : (k p n d c : ℕ) → k + n ≡ p → p ≤ n + d → c * 2 ^ 53 ≤ k * 2 ^ 53 + k → (c + n) * 2 ^ 53 ≤ (0 + p) * 2 ^ 53 + d
+over-it k p n d c e b h = omega arith
+
+under-it : (k p n d c : ℕ) → k + n ≡ p → p ≤ n + d → k * 2 ^ 53 ≤ c * 2 ^ 53 + k → (0 + p) * 2 ^ 53 ≤ (c + n) * 2 ^ 53 + d
+under-it k p n d c e b h = omega arith
+
 close : (s : Bool) (k p n d : ℕ) (z : Float) → Signed s k p n → Small p n d → Rounding s k z → Close p n d z
-close false k p n d z e b r = record { number = r .units .number; most = rw (r .units .plus-is, r .units .less-is) (above-it (r .count) (r .most) (b .upper)); least = rw (r .units .plus-is, r .units .less-is) (below-it (r .count) (r .least) (b .upper)) }
-  where
-    above-it : (c : ℕ) → c * 2 ^ 53 ≤ k * 2 ^ 53 + k → p ≤ n + d → (c + n) * 2 ^ 53 ≤ (0 + p) * 2 ^ 53 + d
-    above-it c h g = omega (arith, e)
+close false k p n d z e b r = record {
+  number = r .units .number;
+  most = rw (r .units .plus-is, r .units .less-is) (over-it k p n d (r .count) e (b .upper) (r .most));
+  least = rw (r .units .plus-is, r .units .less-is) (under-it k p n d (r .count) e (b .upper) (r .least));
+}
+close true k p n d z e b r = record {
+  number = r .units .number;
+  most = rw (r .units .plus-is, r .units .less-is) (under-it k n p d (r .count) e (b .lower) (r .least));
+  least = rw (r .units .plus-is, r .units .less-is) (over-it k n p d (r .count) e (b .lower) (r .most));
+}
 
-    below-it : (c : ℕ) → k * 2 ^ 53 ≤ c * 2 ^ 53 + k → p ≤ n + d → (0 + p) * 2 ^ 53 ≤ (c + n) * 2 ^ 53 + d
-    below-it c h g = omega (arith, e)
-close true k p n d z e b r = record { number = r .units .number; most = rw (r .units .plus-is, r .units .less-is) (above-it (r .count) (r .least) (b .lower)); least = rw (r .units .plus-is, r .units .less-is) (below-it (r .count) (r .most) (b .lower)) }
-  where
-    above-it : (c : ℕ) → k * 2 ^ 53 ≤ c * 2 ^ 53 + k → n ≤ p + d → (0 + n) * 2 ^ 53 ≤ (c + p) * 2 ^ 53 + d
-    above-it c h g = omega (arith, e)
-
-    below-it : (c : ℕ) → c * 2 ^ 53 ≤ k * 2 ^ 53 + k → n ≤ p + d → (c + p) * 2 ^ 53 ≤ (0 + n) * 2 ^ 53 + d
-    below-it c h g = omega (arith, e)
+at-most : (k p n d : ℕ) → k + n ≡ p → p ≤ n + d → k ≤ d
+at-most k p n d e h = omega arith
 
 digits-small : (s : Bool) (k p n d : ℕ) → Signed s k p n → Small p n d → k ≤ d
-digits-small false k p n d e b = go (b .upper)
-  where
-    go : p ≤ n + d → k ≤ d
-    go h = omega (arith, e)
-digits-small true k p n d e b = go (b .lower)
-  where
-    go : n ≤ p + d → k ≤ d
-    go h = omega (arith, e)
+digits-small false k p n d e b = at-most k p n d e (b .upper)
+digits-small true k p n d e b = at-most k n p d e (b .lower)
 
 rounded-close : {p n : ℕ} {z : Float} (d : ℕ) → Rounded binary64 p n perOne z → Small p n d → d ≤ limit → Close p n d z
 rounded-close {p} {n} {z} d R b l =

@@ -17,7 +17,7 @@ use Rattle.double_double.specs.declared.DoubleDouble.{DoubleDouble}
 use Rattle.double_double.specs.DoubleDouble.{fromExactAdd, fromFullExactAdd, fromExactMult, quickMult, quickMultF64, fullAddF64, ddFmla}
 use Rattle.bounds.proofs.Values.{perOne, plus, less, mag, Number, neg-plus, neg-less, neg-number}
 use Rattle.bounds.proofs.Operation.{limit, Small, add-near, sub-near, mul-near}
-use Rattle.bounds.proofs.Sums.{sum-small, add-mag, close-mag, fast-sum, full-sum}
+use Rattle.bounds.proofs.Sums.{rounded-part, sum-small, add-mag, close-mag, InParts, fast-sum, full-sum}
 use Rattle.bounds.proofs.Dekker.{dekker-near}
 
 -- the scale of 1
@@ -77,24 +77,18 @@ sumK K L = K + L + ((K + L) / 2 ^ 53 + 1)
 divided : (m c k μ : ℕ) → 0 < μ → m * 2 ^ 53 ≤ c * (k * μ) → m ≤ (c * k / 2 ^ 53 + 1) * μ
 divided m c k μ P h =
     let e : c * (k * μ) ≡ c * k * μ = sym (mul-assoc c k μ) in
-    let g : c * k ≤ (c * k / 2 ^ 53 + 1) * 2 ^ 53 = over (c * k) in
+    let g : c * k ≤ (c * k / 2 ^ 53 + 1) * 2 ^ 53 = rounded-part (c * k) in
     cut m ((c * k / 2 ^ 53 + 1) * μ) (le-trans h (le-trans (le-of-eq e) (le-trans (mul-le-mul-right μ g) (le-of-eq (mul-right-comm (c * k / 2 ^ 53 + 1) (2 ^ 53) μ)))))
   where
-    over : (a : ℕ) → a ≤ (a / 2 ^ 53 + 1) * 2 ^ 53
-    over a = omega arith
-
     cut : (a b : ℕ) → a * 2 ^ 53 ≤ b * 2 ^ 53 → a ≤ b
     cut a b h = omega arith
 
 rounded-up : (m k μ : ℕ) → 0 < μ → m * 2 ^ 53 ≤ k * μ * 2 ^ 53 + k * μ → m ≤ (k + (k / 2 ^ 53 + 1)) * μ
 rounded-up m k μ P h =
-    let g : k ≤ (k / 2 ^ 53 + 1) * 2 ^ 53 = over k in
+    let g : k ≤ (k / 2 ^ 53 + 1) * 2 ^ 53 = rounded-part k in
     let e : k * μ ≤ (k / 2 ^ 53 + 1) * μ * 2 ^ 53 = le-trans (mul-le-mul-right μ g) (le-of-eq (mul-right-comm (k / 2 ^ 53 + 1) (2 ^ 53) μ)) in
     le-trans (cut m (k * μ) ((k / 2 ^ 53 + 1) * μ) h e) (le-of-eq (sym (add-mul k (k / 2 ^ 53 + 1) μ)))
   where
-    over : (a : ℕ) → a ≤ (a / 2 ^ 53 + 1) * 2 ^ 53
-    over a = omega arith
-
     cut : (m a b : ℕ) → m * 2 ^ 53 ≤ a * 2 ^ 53 + a → a ≤ b * 2 ^ 53 → m ≤ a + b
     cut m a b h e = omega arith
 
@@ -222,23 +216,22 @@ pub record Bounds (μ K k : ℕ) (x : DoubleDouble) : Type 0 where
   pub hi : Bound μ K (x .hi)
   pub lo : Bound μ k (x .lo)
 
-pub fast-bounds : {μ K L : ℕ} {x y : Float} → Bound μ K x → Bound μ L y → T (ok (K + L)) → Bounds μ (sumK K L) (fastK K L) (fromExactAdd x y)
-fast-bounds {μ} {K} {L} {x} {y} p q t =
+-- the two exact additions alike
+in-parts : {μ K L : ℕ} {x y : Float} (c : ℕ) (r : DoubleDouble) → Bound μ K x → Bound μ L y → T (ok (K + L)) → x ⊕ y ≡ r .hi
+    → ((d : ℕ) → Number x → Number y → mag x + mag y ≤ d → 2 * d ≤ limit → InParts x y d c r) → Bounds μ (sumK K L) (c * (K + L) / 2 ^ 53 + 1) r
+in-parts {μ} {K} {L} {x} {y} c r p q t e sum =
     let d = (K + L) * μ in
-    let f = fast-sum d (p .number) (q .number) (both-sizes p q) (one-part d limit (small-limit (K + L) μ t (p .scale .bounded)) .1) in
+    let f = sum d (p .number) (q .number) (both-sizes p q) (one-part d limit (small-limit (K + L) μ t (p .scale .bounded)) .1) in
     record {
-      hi = subst (Bound μ (sumK K L)) (fast-hi x y) (add-bound p q t);
-      lo = record { scale = p .scale; number = f .lo-number; size = divided (mag (fromExactAdd x y .lo)) 4 (K + L) μ (p .scale .positive) (f .lo-small) };
+      hi = subst (Bound μ (sumK K L)) e (add-bound p q t);
+      lo = record { scale = p .scale; number = f .lo-number; size = divided (mag (r .lo)) c (K + L) μ (p .scale .positive) (f .lo-small) };
     }
 
+pub fast-bounds : {μ K L : ℕ} {x y : Float} → Bound μ K x → Bound μ L y → T (ok (K + L)) → Bounds μ (sumK K L) (fastK K L) (fromExactAdd x y)
+fast-bounds {μ} {K} {L} {x} {y} p q t = in-parts 4 (fromExactAdd x y) p q t (fast-hi x y) (λ d. fast-sum d)
+
 pub full-bounds : {μ K L : ℕ} {x y : Float} → Bound μ K x → Bound μ L y → T (ok (K + L)) → Bounds μ (sumK K L) (fullK K L) (fromFullExactAdd x y)
-full-bounds {μ} {K} {L} {x} {y} p q t =
-    let d = (K + L) * μ in
-    let f = full-sum d (p .number) (q .number) (both-sizes p q) (one-part d limit (small-limit (K + L) μ t (p .scale .bounded)) .1) in
-    record {
-      hi = subst (Bound μ (sumK K L)) (full-hi x y) (add-bound p q t);
-      lo = record { scale = p .scale; number = f .lo-number; size = divided (mag (fromFullExactAdd x y .lo)) 5 (K + L) μ (p .scale .positive) (f .lo-small) };
-    }
+full-bounds {μ} {K} {L} {x} {y} p q t = in-parts 5 (fromFullExactAdd x y) p q t (full-hi x y) (λ d. full-sum d)
 
 -- ---- Dekker's product
 dekker-limit : (m K μ : ℕ) → m ≤ K * μ → K * μ * 2 ^ 40 ≤ limit → 2 ^ 40 ≤ limit → (m + 1) * 2 ^ 28 ≤ limit

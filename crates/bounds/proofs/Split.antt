@@ -10,7 +10,7 @@ use Rattle.double_double.specs.DoubleDouble.{splitter, split}
 use Rattle.floats.proofs.Laws.Sums.{under}
 use Rattle.bounds.proofs.Values.{perOne, perOne-pos, plus, less, mag, Number}
 use Rattle.bounds.proofs.Operation.{limit, Small, add-near, sub-near, mul-near}
-use Rattle.bounds.proofs.Sums.{close-mag, difference-small}
+use Rattle.bounds.proofs.Sums.{past, close-mag, difference-small}
 
 -- ---- `split`
 splitter-number : Number splitter
@@ -38,10 +38,6 @@ first m A w W h = bring m A (le-of-mul-le-mul-right g W)
 
 second : (A m : ℕ) → m ≤ 134217730 * A + 1 → A + m ≤ 134217731 * A + 1
 second A m h = omega arith
-
--- an excess of at most k
-past : (x y D k : ℕ) → x * 2 ^ 53 ≤ y * 2 ^ 53 + D → D ≤ k * 2 ^ 53 → x ≤ y + k
-past x y D k h g = omega arith
 
 -- t1 + t2 is a but for the rounding of t2
 third : (pa na p1 n1 p2 n2 : ℕ) → (p2 + (na + p1)) * 2 ^ 53 ≤ (n2 + (pa + n1)) * 2 ^ 53 + (134217731 * (pa + na) + 1) → (n2 + (pa + n1)) * 2 ^ 53 ≤ (p2 + (na + p1)) * 2 ^ 53 + (134217731 * (pa + na) + 1)

@@ -7,9 +7,19 @@ use Prim.Native.Nat.{ℕ, _+_, _*_, _/_, _^_, _≤_}
 use native.Mathlib.Omega.{arith}
 use lib.Ieee.{Float}
 use Rattle.floats.specs.Operations.{_⊕_, _⊖_}
+use Rattle.double_double.specs.declared.DoubleDouble.{DoubleDouble}
 use Rattle.double_double.specs.DoubleDouble.{fromExactAdd, fromFullExactAdd}
 use Rattle.bounds.proofs.Values.{plus, less, mag, one-side, Number}
 use Rattle.bounds.proofs.Operation.{limit, Close, Small, add-near, sub-near}
+
+-- ---- parts of 2^53
+-- an excess of at most k
+pub past : (x y D k : ℕ) → x * 2 ^ 53 ≤ y * 2 ^ 53 + D → D ≤ k * 2 ^ 53 → x ≤ y + k
+past x y D k h g = omega arith
+
+-- a is at most 2^53 times the next whole number to a / 2^53
+pub rounded-part : (a : ℕ) → a ≤ (a / 2 ^ 53 + 1) * 2 ^ 53
+rounded-part a = omega arith
 
 -- ---- the size of what is close to p - n
 -- of two parts one is 0
@@ -44,11 +54,13 @@ add-mag {x} {y} d p q h l = close-mag d (add-near d p q (sum-small x y d h) l) (
 pub sub-mag : {x y : Float} (d : ℕ) → Number x → Number y → mag x + mag y ≤ d → d ≤ limit → mag (x ⊖ y) * 2 ^ 53 ≤ d * 2 ^ 53 + d
 sub-mag {x} {y} d p q h l = close-mag d (sub-near d p q (difference-small x y d h) l) (difference-small x y d h)
 
+-- ---- a sum r in two parts: hi is a + b but for d / 2^53, and lo at most c × d / 2^53
+pub record InParts (a b : Float) (d c : ℕ) (r : DoubleDouble) : Type 0 where
+  pub hi : Close (plus a + plus b) (less a + less b) d (r .hi)
+  pub lo-number : Number (r .lo)
+  pub lo-small : mag (r .lo) * 2 ^ 53 ≤ c * d
+
 -- ---- `fromExactAdd`
-pub record FastSum (a b : Float) (d : ℕ) : Type 0 where
-  pub hi : Close (plus a + plus b) (less a + less b) d (fromExactAdd a b .hi)
-  pub lo-number : Number (fromExactAdd a b .lo)
-  pub lo-small : mag (fromExactAdd a b .lo) * 2 ^ 53 ≤ 4 * d
 
 -- hi - a is b but for the first rounding
 fast-t : (pa na pb nb ph nh d : ℕ) → pa + na + (pb + nb) ≤ d → (ph + (na + nb)) * 2 ^ 53 ≤ (nh + (pa + pb)) * 2 ^ 53 + d → (nh + (pa + pb)) * 2 ^ 53 ≤ (ph + (na + nb)) * 2 ^ 53 + d
@@ -67,7 +79,7 @@ three-and m d h = omega arith
 less-than : (d l : ℕ) → 2 * d ≤ l → (d ≤ l) × (2 * d ≤ l) × (3 * d / 2 ^ 53 ≤ l) × (4 * d / 2 ^ 53 ≤ l)
 less-than d l h = (omega arith, omega arith, omega arith, omega arith)
 
-pub fast-sum : {a b : Float} (d : ℕ) → Number a → Number b → mag a + mag b ≤ d → 2 * d ≤ limit → FastSum a b d
+pub fast-sum : {a b : Float} (d : ℕ) → Number a → Number b → mag a + mag b ≤ d → 2 * d ≤ limit → InParts a b d 4 (fromExactAdd a b)
 unfolding fromExactAdd
 fast-sum {a} {b} d p q s l =
     let w = less-than d limit l in
@@ -78,11 +90,6 @@ fast-sum {a} {b} d p q s l =
     record { hi = hi; lo-number = lo .number; lo-small = three-and (mag (b ⊖ (a ⊕ b ⊖ a))) d (close-mag (3 * d / 2 ^ 53) lo small) }
 
 -- ---- `fromFullExactAdd`
-pub record FullSum (a b : Float) (d : ℕ) : Type 0 where
-  pub hi : Close (plus a + plus b) (less a + less b) d (fromFullExactAdd a b .hi)
-  pub lo-number : Number (fromFullExactAdd a b .lo)
-  pub lo-small : mag (fromFullExactAdd a b .lo) * 2 ^ 53 ≤ 5 * d
-
 -- hi - t1 is a but for the second rounding
 full-t2 : (pa na pb nb ph nh p1 n1 d : ℕ) → pa + na + (pb + nb) ≤ d → (p1 + (nh + pa)) * 2 ^ 53 ≤ (n1 + (ph + na)) * 2 ^ 53 + 2 * d → (n1 + (ph + na)) * 2 ^ 53 ≤ (p1 + (nh + pa)) * 2 ^ 53 + 2 * d
     → Small (ph + n1) (nh + p1) (2 * d)
@@ -124,7 +131,7 @@ four-and m d h = omega arith
 parts : (d : ℕ) → (3 * d / 2 ^ 53 * 2 ^ 53 ≤ 3 * d) × (4 * d / 2 ^ 53 * 2 ^ 53 ≤ 4 * d)
 parts d = (omega arith, omega arith)
 
-pub full-sum : {a b : Float} (d : ℕ) → Number a → Number b → mag a + mag b ≤ d → 2 * d ≤ limit → FullSum a b d
+pub full-sum : {a b : Float} (d : ℕ) → Number a → Number b → mag a + mag b ≤ d → 2 * d ≤ limit → InParts a b d 5 (fromFullExactAdd a b)
 unfolding fromFullExactAdd
 full-sum {a} {b} d p q s l =
     let w = less-than d limit l in

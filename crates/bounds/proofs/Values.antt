@@ -9,6 +9,7 @@ use native.Mathlib.Nat.{le-of-mul-le-mul-right, eq-of-mul-eq-mul-right, mul-comm
 use native.Mathlib.Omega.{arith}
 use lib.Dec.{T}
 use lib.Pow.{pow-pos}
+use lib.IntN.{ℤ}
 use lib.Ieee.{Float, nan, inf, fin, binary64, up, down, unlike, round, neg, add, mul, fits}
 use lib.Ieee.Exact.{HasValue}
 use lib.Ieee.Fits.{neg-fits, down-pos}
@@ -44,6 +45,15 @@ mag x = plus x + less x
 pub record Number (x : Float) : Type 0 where
   pub held : T (fits binary64 x)
   pub plain : T (finite x)
+
+-- what holds of any two finite values that fit holds of any two such f64s
+pub of-numbers : (P : Float → Float → Type 0)
+    → ((s : Bool) (m : ℕ) (e : ℤ) (t : Bool) (n : ℕ) (d : ℤ) → T (fits binary64 (fin s m e)) → T (fits binary64 (fin t n d)) → P (fin s m e) (fin t n d)) → (x y : Float) → Number x → Number y → P x y
+of-numbers P finite nan y p q = absurd (p .plain)
+of-numbers P finite (inf s) y p q = absurd (p .plain)
+of-numbers P finite (fin s m e) nan p q = absurd (q .plain)
+of-numbers P finite (fin s m e) (inf t) p q = absurd (q .plain)
+of-numbers P finite (fin s m e) (fin t n d) p q = finite s m e t n d (p .held) (q .held)
 
 -- the size of a finite value, whatever its sign
 pub mag-of : (s : Bool) (k : ℕ) → above s k + under s k ≡ k
@@ -139,28 +149,22 @@ in-whole-units {p} {n} {c} {q} {r} {w} {x} C W P N R = go (R .sign) (R .exact) (
         let d = difference (R .digits) n p r q c w C e N P in
         record { sign = true; digits = r - q; exact = d .1; is = i ∙ round-same binary64 true (R .digits) c (r - q) w C W (d .0) }
 
+finite-sum : (s : Bool) (m : ℕ) (e : ℤ) (t : Bool) (n : ℕ) (d : ℤ) → T (fits binary64 (fin s m e)) → T (fits binary64 (fin t n d))
+    → Rounded binary64 (plus (fin s m e) + plus (fin t n d)) (less (fin s m e) + less (fin t n d)) (2 ^ 1074) (fin s m e ⊕ fin t n d)
+finite-sum s m e t n d f g =
+    let X = m * 2 ^ exponent 1074 e in
+    let Y = n * 2 ^ exponent 1074 d in
+    let a = in-units binary64 s m e f in
+    let b = in-units binary64 t n d g in
+    in-whole-units (mul-pos (down-pos e) (down-pos d)) (pow-pos 1074)
+    (joined (above s (m * up e)) (above t (n * up d)) (down e) (down d) (above s X) (above t Y) (2 ^ 1074) (cross s (m * up e) X (down e) (2 ^ 1074) a) (cross t (n * up d) Y (down d) (2 ^ 1074) b))
+    (joined (under s (m * up e)) (under t (n * up d)) (down e) (down d) (under s X) (under t Y) (2 ^ 1074) (cross-under s (m * up e) X (down e) (2 ^ 1074) a) (cross-under t (n * up d) Y (down d) (2 ^ 1074) b))
+    (add-rounded binary64 s m e t n d)
+
 -- the exact sum, as a whole number of units, rounded
 pub sum-in-units : (x y : Float) → Number x → Number y → Rounded binary64 (plus x + plus y) (less x + less y) perOne (x ⊕ y)
 unfolding perOne
-sum-in-units nan y p q = absurd (p .plain)
-sum-in-units (inf s) y p q = absurd (p .plain)
-sum-in-units (fin s m e) nan p q = absurd (q .plain)
-sum-in-units (fin s m e) (inf t) p q = absurd (q .plain)
-sum-in-units (fin s m e) (fin t n d) p q = go (in-units binary64 s m e (p .held)) (in-units binary64 t n d (q .held))
-  where
-    X : ℕ
-    X = m * 2 ^ exponent 1074 e
-
-    Y : ℕ
-    Y = n * 2 ^ exponent 1074 d
-
-    go : m * up e * 2 ^ 1074 ≡ X * down e → n * up d * 2 ^ 1074 ≡ Y * down d
-        → Rounded binary64 (above s X + above t Y) (under s X + under t Y) (2 ^ 1074) (add binary64 (fin s m e) (fin t n d))
-    go a b =
-        in-whole-units (mul-pos (down-pos e) (down-pos d)) (pow-pos 1074)
-        (joined (above s (m * up e)) (above t (n * up d)) (down e) (down d) (above s X) (above t Y) (2 ^ 1074) (cross s (m * up e) X (down e) (2 ^ 1074) a) (cross t (n * up d) Y (down d) (2 ^ 1074) b))
-        (joined (under s (m * up e)) (under t (n * up d)) (down e) (down d) (under s X) (under t Y) (2 ^ 1074) (cross-under s (m * up e) X (down e) (2 ^ 1074) a) (cross-under t (n * up d) Y (down d) (2 ^ 1074) b))
-        (add-rounded binary64 s m e t n d)
+sum-in-units = of-numbers (λ (x y : Float). Rounded binary64 (plus x + plus y) (less x + less y) (2 ^ 1074) (x ⊕ y)) finite-sum
 
 -- ---- a product
 -- x is not against the sign s
@@ -185,27 +189,18 @@ signs s t u v a b (inl e) (inl d) = inl (ap₂ unlike e d)
 signs s t u v a b (inl e) (inr d) = inr (ap (λ (z : ℕ). a * z) d ∙ mul-zero a)
 signs s t u v a b (inr e) d = inr (ap (λ (z : ℕ). z * b) e ∙ zero-mul b)
 
-pub product-in-units : (x y : Float) → Number x → Number y → Product x y
+finite-product : (s : Bool) (m : ℕ) (e : ℤ) (t : Bool) (n : ℕ) (d : ℤ) → T (fits binary64 (fin s m e)) → T (fits binary64 (fin t n d)) → Product (fin s m e) (fin t n d)
 unfolding mul perOne
-product-in-units nan y p q = absurd (p .plain)
-product-in-units (inf s) y p q = absurd (p .plain)
-product-in-units (fin s m e) nan p q = absurd (q .plain)
-product-in-units (fin s m e) (inf t) p q = absurd (q .plain)
-product-in-units (fin s m e) (fin t n d) p q = record {
-  sign = unlike s t;
-  is = is (in-units binary64 s m e (p .held)) (in-units binary64 t n d (q .held));
-  toward = λ u v a b. signs s t u v (above s X + under s X) (above t Y + under t Y) (same-sign s u X a) (same-sign t v Y b);
-}
-  where
-    X : ℕ
-    X = m * 2 ^ exponent 1074 e
+finite-product s m e t n d f g =
+    let X = m * 2 ^ exponent 1074 e in
+    let Y = n * 2 ^ exponent 1074 d in
+    record {
+      sign = unlike s t;
+      is = round-same binary64 (unlike s t) (m * up e * (n * up d)) (down e * down d) (X * Y) (2 ^ 1074 * 2 ^ 1074) (mul-pos (down-pos e) (down-pos d)) (mul-pos (pow-pos 1074) (pow-pos 1074))
+          (mul-mul-mul-comm (m * up e) (n * up d) (2 ^ 1074) (2 ^ 1074) ∙ ap₂ _*_ (in-units binary64 s m e f) (in-units binary64 t n d g) ∙ mul-mul-mul-comm X (down e) Y (down d))
+          ∙ ap₂ (λ (i j : ℕ). round binary64 (unlike s t) (i * j) (2 ^ 1074 * 2 ^ 1074)) (sym (mag-of s X)) (sym (mag-of t Y));
+      toward = λ u v a b. signs s t u v (above s X + under s X) (above t Y + under t Y) (same-sign s u X a) (same-sign t v Y b);
+    }
 
-    Y : ℕ
-    Y = n * 2 ^ exponent 1074 d
-
-    is : m * up e * 2 ^ 1074 ≡ X * down e → n * up d * 2 ^ 1074 ≡ Y * down d
-        → mul binary64 (fin s m e) (fin t n d) ≡ round binary64 (unlike s t) ((above s X + under s X) * (above t Y + under t Y)) (2 ^ 1074 * 2 ^ 1074)
-    is a b =
-        round-same binary64 (unlike s t) (m * up e * (n * up d)) (down e * down d) (X * Y) (2 ^ 1074 * 2 ^ 1074) (mul-pos (down-pos e) (down-pos d)) (mul-pos (pow-pos 1074) (pow-pos 1074))
-        (mul-mul-mul-comm (m * up e) (n * up d) (2 ^ 1074) (2 ^ 1074) ∙ ap₂ _*_ a b ∙ mul-mul-mul-comm X (down e) Y (down d))
-        ∙ ap₂ (λ (i j : ℕ). round binary64 (unlike s t) (i * j) (2 ^ 1074 * 2 ^ 1074)) (sym (mag-of s X)) (sym (mag-of t Y))
+pub product-in-units : (x y : Float) → Number x → Number y → Product x y
+product-in-units = of-numbers Product finite-product

@@ -15,7 +15,7 @@ use lib.Ieee.Scale.{finite}
 use Rattle.floats.specs.Narrowing.{narrowed}
 use Rattle.floats.specs.OnBits.{absolute}
 use Rattle.floats.proofs.Laws.Magnitude.{inf-under-top}
-use Rattle.floats.proofs.Laws.Order.{or-l, clear, round-clear, pattern-mono, order-of-patterns}
+use Rattle.floats.proofs.Laws.Order.{le-below, or-l, clear, round-clear, pattern-mono, order-of-patterns}
 use Rattle.floats.proofs.Laws.Powers.{mul-power}
 use Rattle.floats.proofs.Laws.Sums.{add-mono, add-mono-left}
 use Rattle.floats.proofs.Laws.Units.{bits-under-top, fits-digits}
@@ -85,13 +85,6 @@ under-least a d h g = omega arith
 pub digits-below : (m : ℕ) (e : ℤ) → m < 2 ^ 24 → m * up e < down e → m * up e < 2 ^ 24
 digits-below m (pos k) g h = lt-trans h (lit< tt)
 digits-below m (negsuc k) g h = lt-of-le-of-lt (le-of-eq (mul-one m)) g
-
-le-below : (a b : ℕ) → b ≤ a → T (ltb b a || (eqb a b && true))
-le-below a b h = go (ltb b a) (nltb→le b a)
-  where
-    go : (u : Bool) → (T (not u) → a ≤ b) → T (u || (eqb a b && true))
-    go true g = tt
-    go false g = and-i (eqb a b) true (eq→eqb (le-antisymm (g tt) h)) tt
 
 above-least : (x : Float) → T (fits binary32 x) → T (lt minusOne x) → T (le least x)
 unfolding lt le

@@ -7,13 +7,13 @@ use mathlib.Core.Bool.{Bool, true, false, not, _&&_, _||_}
 use Prim.Native.Nat.{ℕ, zero, suc, _+_, _*_, _^_, _≤_, _<_}
 use native.Mathlib.Nat.{le-trans, le-of-eq, le-of-lt, le-antisymm, zero-add, mul-assoc, mul-right-comm, mul-le-mul-right, le-of-mul-le-mul-right, mul-pos, zero-mul}
 use native.Mathlib.Omega.{arith}
-use lib.Dec.{T, leb, ltb, eqb, leb→le, nleb→lt, ltb→lt, lt→ltb, eqb→eq}
+use lib.Dec.{T, leb, ltb, eqb, leb→le, nleb→lt, ltb→lt, nltb→le, lt→ltb, eqb→eq}
 use lib.IntN.{ℤ, pos}
 use lib.Pow.{pow-pos}
 use lib.Ieee.{Float, nan, inf, fin, Format, binary32, binary64, prec, low, up, down, round, neg, le, fits, hid, ones, toBits, ofBits}
 use lib.Ieee.Bits.{ofBits-fits, ofBits-toBits}
 use lib.Ieee.Exact.{HasValue}
-use lib.Ieee.Fits.{and-l, down-pos, two, two-le-pos}
+use lib.Ieee.Fits.{and-i, and-l, eq→eqb, down-pos, two, two-le-pos}
 use lib.Ieee.Order.{round-mono, le-of-values}
 use lib.Ieee.Scale.{round-same, overflow}
 use Rattle.floats.proofs.Laws.Place.{place, place-mono, place-of-overflow, bits-of-inf}
@@ -123,6 +123,14 @@ or-r false b t = t
 
 flip-eq : (a b : ℕ) (s : Bool) → T (eqb a b && s) → T (eqb b a && s)
 flip-eq a b s t = subst (λ (x : ℕ). T (eqb x a && s)) (eqb→eq a b (and-l (eqb a b) s t)) (subst (λ (x : ℕ). T (eqb a x && s)) (sym (eqb→eq a b (and-l (eqb a b) s t))) t)
+
+-- b ≤ a, as the test has it for two negative values
+pub le-below : (a b : ℕ) → b ≤ a → T (ltb b a || (eqb a b && true))
+le-below a b h = go (ltb b a) (nltb→le b a)
+  where
+    go : (u : Bool) → (T (not u) → a ≤ b) → T (u || (eqb a b && true))
+    go true g = tt
+    go false g = and-i (eqb a b) true (eq→eqb (le-antisymm (g tt) h)) tt
 
 -- turned round by the sign
 le-neg : (x y : Float) → T (clear x) → T (clear y) → T (le x y) → T (le (neg y) (neg x))
