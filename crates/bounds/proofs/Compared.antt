@@ -17,10 +17,9 @@ use Rattle.floats.proofs.Laws.Order.{le-below, bits-of-clear, under-zero}
 use Rattle.floats.proofs.Laws.Sums.{above, under, above-times, under-times, le-says, SizeAtMost}
 use Rattle.floats.proofs.Laws.Units.{exponent, in-units}
 use Rattle.bounds.proofs.Values.{perOne, plus, less, mag, mag-of, one-side, Number, of-numbers, cross, cross-under, joined}
-use Rattle.bounds.proofs.Operation.{limit, add-near, mul-near}
-use Rattle.bounds.proofs.Sums.{past, sum-small}
-use Rattle.bounds.proofs.Scales.{S, S-pos, unit, one-is, Bound, within, tested, unit-left, ok, both-sizes, one-part, small-limit, productK, mul-limit, mul-bound, add-bound}
-use Rattle.bounds.proofs.Distances.{parts, Apart, apartK, add-apart, not-below}
+use Rattle.bounds.proofs.Operation.{mul-near}
+use Rattle.bounds.proofs.Scales.{S, S-pos, unit, one-is, Bound, within, tested, unit-left, ok, productK, mul-limit, mul-bound, add-bound}
+use Rattle.bounds.proofs.Distances.{sum-off, Apart, apartK, add-apart, not-below}
 
 -- ---- the order
 -- a side of it, in units
@@ -261,27 +260,21 @@ quotient X u h = (div-mul-le-self X u, div-lt-iff-lt-mul h .0 (one-more (X / u))
 pub positive-sum : {a b c d : ℕ} {x y : Float} → Positive a b x → Positive c d y → T (ok (b + d)) → T (ltb ((b + d) / 2 ^ 53 + 1) (a + c)) → Positive (a + c - ((b + d) / 2 ^ 53 + 1)) (b + d + ((b + d) / 2 ^ 53 + 1)) (x ⊕ y)
 positive-sum {a} {b} {c} {d} {x} {y} p q t u =
     let e = (b + d) / 2 ^ 53 + 1 in
-    let D = (b + d) * S in
     let z = x ⊕ y in
-    let n = add-near D (p .number) (q .number) (sum-small x y D (both-sizes (positive-bound p) (positive-bound q))) (one-part D limit (small-limit (b + d) S t (unit .bounded)) .0) in
-    let r = go (plus x) (less x) (plus y) (less y) (plus z) (less z) (a * S) (b * S) (c * S) (d * S) (e * S) D (one-side z) (p .clear) (q .clear) (p .least) (p .most) (q .least) (q .most) (parts (b + d) S)
-    (lt-of-lt-of-le (mul-lt-mul-of-pos-right (ltb→lt e (a + c) u) S-pos) (le-of-eq (add-mul a c S))) (n .most) (n .least) in
+    let o = sum-off (positive-bound p) (positive-bound q) t in
+    let r = go (plus x) (less x) (plus y) (less y) (plus z) (less z) (a * S) (b * S) (c * S) (d * S) (e * S) (one-side z) (p .clear) (q .clear) (p .least) (p .most) (q .least) (q .most)
+    (lt-of-lt-of-le (mul-lt-mul-of-pos-right (ltb→lt e (a + c) u) S-pos) (le-of-eq (add-mul a c S))) (o .upper) (o .lower) in
     record {
-      number = n .number;
+      number = add-bound (positive-bound p) (positive-bound q) t .number;
       clear = r .0;
       least = le-trans (taken (a + c) e S (ltb→lt e (a + c) u)) (le-trans (le-of-eq (ap (λ (k : ℕ). k - e * S) (add-mul a c S))) (r .1));
       most = le-trans (r .2) (le-of-eq (sym (add-mul (b + d) e S ∙ ap (λ (k : ℕ). k + e * S) (add-mul b d S))));
     }
   where
-    finish : (p n q m r l a b c d E : ℕ) → (r ≡ 0) ⊎ (l ≡ 0) → n ≡ 0 → m ≡ 0 → a ≤ p → p ≤ b → c ≤ q → q ≤ d → E < a + c → r + (n + m) ≤ l + (p + q) + E → l + (p + q) ≤ r + (n + m) + E
+    go : (p n q m r l a b c d E : ℕ) → (r ≡ 0) ⊎ (l ≡ 0) → n ≡ 0 → m ≡ 0 → a ≤ p → p ≤ b → c ≤ q → q ≤ d → E < a + c → r + (n + m) ≤ l + (p + q) + E → l + (p + q) ≤ r + (n + m) + E
         → (l ≡ 0) × (a + c - E ≤ r) × (r ≤ b + d + E)
-    finish p n q m r l a b c d E (inl z) N M ap pb cq qd u g h = (omega arith, omega arith, omega arith)
-    finish p n q m r l a b c d E (inr z) N M ap pb cq qd u g h = (omega arith, omega arith, omega arith)
-
-    go : (p n q m r l a b c d E D : ℕ) → (r ≡ 0) ⊎ (l ≡ 0) → n ≡ 0 → m ≡ 0 → a ≤ p → p ≤ b → c ≤ q → q ≤ d → D ≤ E * 2 ^ 53 → E < a + c
-        → (r + (n + m)) * 2 ^ 53 ≤ (l + (p + q)) * 2 ^ 53 + D → (l + (p + q)) * 2 ^ 53 ≤ (r + (n + m)) * 2 ^ 53 + D → (l ≡ 0) × (a + c - E ≤ r) × (r ≤ b + d + E)
-    go p n q m r l a b c d E D z N M ap pb cq qd e u g h =
-        finish p n q m r l a b c d E z N M ap pb cq qd u (past (r + (n + m)) (l + (p + q)) D E g e) (past (l + (p + q)) (r + (n + m)) D E h e)
+    go p n q m r l a b c d E (inl z) N M ap pb cq qd u g h = (omega arith, omega arith, omega arith)
+    go p n q m r l a b c d E (inr z) N M ap pb cq qd u g h = (omega arith, omega arith, omega arith)
 
 -- of two values one is at most the other; where x is not, it is the larger, strictly
 pub gt-of-not-le : (x y : Float) → Number x → Number y → le x y ≡ false → plus y + less x < plus x + less y

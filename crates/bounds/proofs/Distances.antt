@@ -1,5 +1,5 @@
--- How far two values can be from each other, on a scale: a sum is as far from one of its terms as the other term is large, and a rounding
--- (`add-apart`); `ddFmla` is as far from c as the product is large, and its roundings (`fmla-apart`). From a distance to a known value a size follows, from
+-- How far two values can be from each other, on a scale: a sum is a rounding from the exact one (`sum-off`), and as far from one of its terms as the other term
+-- is large, and a rounding (`add-apart`); `ddFmla` is as far from c as the product is large, and its roundings (`fmla-apart`). From a distance to a known value a size follows, from
 -- below and from above (`not-less`, `not-below`, `not-more`). Assumes nothing.
 use mathlib.Core.Path.{_≡_, subst}
 use mathlib.Core.Logic.{_⊎_, inl, inr}
@@ -12,7 +12,7 @@ use Rattle.floats.specs.Operations.{_⊕_}
 use Rattle.floats.proofs.Laws.Sums.{add-turned}
 use Rattle.double_double.specs.DoubleDouble.{fromFullExactAdd, fullAddF64, ddFmla}
 use Rattle.bounds.proofs.Values.{plus, less, mag, one-side}
-use Rattle.bounds.proofs.Operation.{limit, add-near}
+use Rattle.bounds.proofs.Operation.{limit, Small, add-near}
 use Rattle.bounds.proofs.Sums.{past, rounded-part, sum-small}
 use Rattle.bounds.proofs.Scales.{Bound, both-sizes, one-part, small-limit, ok, sumK, productK, ProductScale, add-bound, dekker-bounds, full-bounds, fmlaLoK, fmlaOk, fmla-parts}
 
@@ -43,21 +43,30 @@ abbrev pub apartK : ℕ → ℕ → ℕ
 apartK K L = L + ((K + L) / 2 ^ 53 + 1)
 
 -- k is at most 2^53 times (k / 2^53 + 1)
-pub parts : (k μ : ℕ) → k * μ ≤ (k / 2 ^ 53 + 1) * μ * 2 ^ 53
+parts : (k μ : ℕ) → k * μ ≤ (k / 2 ^ 53 + 1) * μ * 2 ^ 53
 parts k μ = le-trans (mul-le-mul-right μ (rounded-part k)) (le-of-eq (mul-right-comm (k / 2 ^ 53 + 1) (2 ^ 53) μ))
 
--- x + y is off x by y, and from the exact sum by a rounding
-pub add-apart : {μ K L : ℕ} {x y : Float} → Bound μ K x → Bound μ L y → T (ok (K + L)) → Apart μ (apartK K L) (x ⊕ y) x
-add-apart {μ} {K} {L} {x} {y} p q t =
+-- x + y is off the exact sum by a rounding
+pub sum-off : {μ K L : ℕ} {x y : Float} → Bound μ K x → Bound μ L y → T (ok (K + L)) → Small (plus (x ⊕ y) + (less x + less y)) (less (x ⊕ y) + (plus x + plus y)) (((K + L) / 2 ^ 53 + 1) * μ)
+sum-off {μ} {K} {L} {x} {y} p q t =
     let d = (K + L) * μ in
     let c = add-near d (p .number) (q .number) (sum-small x y d (both-sizes p q)) (one-part d limit (small-limit (K + L) μ t (p .scale .bounded)) .0) in
     let E = ((K + L) / 2 ^ 53 + 1) * μ in
     let z = x ⊕ y in
-    let g = past (plus z + (less x + less y)) (less z + (plus x + plus y)) d E (c .most) (parts (K + L) μ) in
-    let h = past (less z + (plus x + plus y)) (plus z + (less x + less y)) d E (c .least) (parts (K + L) μ) in
     record {
-      over = above (plus x) (less x) (plus y) (less y) (plus z) (less z) (L * μ) E (apartK K L * μ) (add-mul L ((K + L) / 2 ^ 53 + 1) μ) (q .size) g;
-      under = below (plus x) (less x) (plus y) (less y) (plus z) (less z) (L * μ) E (apartK K L * μ) (add-mul L ((K + L) / 2 ^ 53 + 1) μ) (q .size) h;
+      upper = past (plus z + (less x + less y)) (less z + (plus x + plus y)) d E (c .most) (parts (K + L) μ);
+      lower = past (less z + (plus x + plus y)) (plus z + (less x + less y)) d E (c .least) (parts (K + L) μ);
+    }
+
+-- so it is off x by y, and a rounding
+pub add-apart : {μ K L : ℕ} {x y : Float} → Bound μ K x → Bound μ L y → T (ok (K + L)) → Apart μ (apartK K L) (x ⊕ y) x
+add-apart {μ} {K} {L} {x} {y} p q t =
+    let E = ((K + L) / 2 ^ 53 + 1) * μ in
+    let z = x ⊕ y in
+    let o = sum-off p q t in
+    record {
+      over = above (plus x) (less x) (plus y) (less y) (plus z) (less z) (L * μ) E (apartK K L * μ) (add-mul L ((K + L) / 2 ^ 53 + 1) μ) (q .size) (o .upper);
+      under = below (plus x) (less x) (plus y) (less y) (plus z) (less z) (L * μ) E (apartK K L * μ) (add-mul L ((K + L) / 2 ^ 53 + 1) μ) (q .size) (o .lower);
     }
   where
     above : (p n q m r l Y E k : ℕ) → k ≡ Y + E → q + m ≤ Y → r + (n + m) ≤ l + (p + q) + E → r + n ≤ l + p + k

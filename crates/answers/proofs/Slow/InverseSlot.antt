@@ -15,9 +15,9 @@ use Rattle.tables.proofs.Entries.{carried}
 use Rattle.compound.specs.Special.{minusOne}
 use Rattle.compound.specs.Fast.{inverseIndex, HasInverse}
 use Rattle.bounds.proofs.Values.{plus, less}
-use Rattle.bounds.proofs.Operation.{limit, Close, Small, add-near}
-use Rattle.bounds.proofs.Sums.{sum-small}
-use Rattle.bounds.proofs.Scales.{S, S-pos, unit, unit-left, Bound, at, ok, productK, both-sizes, one-part, small-limit, tested, fmla-small}
+use Rattle.bounds.proofs.Operation.{Small}
+use Rattle.bounds.proofs.Scales.{S, S-pos, unit, unit-left, Bound, at, ok, productK, tested, fmla-small}
+use Rattle.bounds.proofs.Distances.{sum-off}
 use Rattle.bounds.proofs.Compared.{Positive, between, tested-positive, positive-at, positive-bound, positive-sum, positive-mul, productFits, place-in-64ths, quotient}
 
 -- ---- t, from its index
@@ -105,21 +105,18 @@ module _ (t : Float) (b : Positive (2 ^ 52) (3 * 2 ^ 52) t) (has : HasInverse t)
       go : (n q : ℕ) → n ≡ 1023 * 2 ^ 7 + q → 0x2002d ≤ n → n - 0x2002d + 173 ≡ q
       go n q e h = omega arith
 
-  exact : Close (plus t + plus two) (less t + less two) ((3 * 2 ^ 52 + 2 ^ 54) * S) w
+  off : Small (plus w + (less t + less two)) (less w + (plus t + plus two)) (4 * S)
   unfolding w
-  exact =
-      let d = (3 * 2 ^ 52 + 2 ^ 54) * S in
-      add-near d (b .number) (two-is .number) (sum-small t two d (both-sizes (positive-bound b) (positive-bound two-is))) (one-part d limit (small-limit (3 * 2 ^ 52 + 2 ^ 54) S tt (unit .bounded)) .0)
+  off = sum-off (positive-bound b) (positive-bound two-is) tt
 
   in-slot : Positive ((i + 45) * 2 ^ 47 - 4) ((i + 46) * 2 ^ 47 + 4) t
   in-slot =
       let q = quotient (plus w) (2 ^ 47 * S) parts-pos in
-      let c = exact in
       let r = slot-of (plus w) (plus two) (plus t) S (i * S) (le-antisymm (two-is .most) (two-is .least))
       (le-trans (le-of-eq (low-end i S)) (subst (λ (n : ℕ). n * (2 ^ 47 * S) ≤ plus w) (sym place-is) (q .0)))
       (le-trans (le-of-lt (subst (λ (n : ℕ). plus w < (n + 1) * (2 ^ 47 * S)) (sym place-is) (q .1))) (le-of-eq (high-end i S)))
-      (over (plus w) (less w) (plus t) (less t) (plus two) (less two) S (b .clear) (two-is .clear) (sum-is .clear) (c .most))
-      (under (plus w) (less w) (plus t) (less t) (plus two) (less two) S (b .clear) (two-is .clear) (sum-is .clear) (c .least)) in
+      (over (plus w) (less w) (plus t) (less t) (plus two) (less two) S (b .clear) (two-is .clear) (sum-is .clear) (off .upper))
+      (under (plus w) (less w) (plus t) (less t) (plus two) (less two) S (b .clear) (two-is .clear) (sum-is .clear) (off .lower)) in
       record { number = b .number; clear = b .clear; least = low i S (plus t) (r .0); most = le-trans (r .1) (le-of-eq (high i S)) }
     where
       low-end : (k s : ℕ) → (k * s + 173 * s) * 2 ^ 47 ≡ (k + 173) * (2 ^ 47 * s)
@@ -128,10 +125,10 @@ module _ (t : Float) (b : Positive (2 ^ 52) (3 * 2 ^ 52) t) (has : HasInverse t)
       high-end : (k s : ℕ) → (k + 173 + 1) * (2 ^ 47 * s) ≡ (k * s + 174 * s) * 2 ^ 47
       high-end k s = omega arith
 
-      over : (X n p m C l s : ℕ) → m ≡ 0 → l ≡ 0 → n ≡ 0 → (X + (m + l)) * 2 ^ 53 ≤ (n + (p + C)) * 2 ^ 53 + (3 * 2 ^ 52 + 2 ^ 54) * s → X ≤ C + p + 4 * s
+      over : (X n p m C l s : ℕ) → m ≡ 0 → l ≡ 0 → n ≡ 0 → X + (m + l) ≤ n + (p + C) + 4 * s → X ≤ C + p + 4 * s
       over X n p m C l s e f g h = omega arith
 
-      under : (X n p m C l s : ℕ) → m ≡ 0 → l ≡ 0 → n ≡ 0 → (n + (p + C)) * 2 ^ 53 ≤ (X + (m + l)) * 2 ^ 53 + (3 * 2 ^ 52 + 2 ^ 54) * s → C + p ≤ X + 4 * s
+      under : (X n p m C l s : ℕ) → m ≡ 0 → l ≡ 0 → n ≡ 0 → n + (p + C) ≤ X + (m + l) + 4 * s → C + p ≤ X + 4 * s
       under X n p m C l s e f g h = omega arith
 
       low : (k s p : ℕ) → (k * s + 45 * s) * 2 ^ 47 ≤ p + 4 * s → ((k + 45) * 2 ^ 47 - 4) * s ≤ p

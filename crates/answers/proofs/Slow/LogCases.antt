@@ -2,11 +2,10 @@
 use mathlib.Core.Path.{_≡_, sym, ap, ap₂, _∙_, subst}
 use mathlib.Core.Logic.{_⊎_, inl, inr}
 use Prim.Native.Nat.{ℕ, _+_, _-_, _*_, _/_, _%_, _^_, _≤_, _<_, zero-le}
-use native.Mathlib.Nat.{le-refl, le-trans, le-of-eq, lt-trans, mul-le-mul, mul-le-mul-right, le-of-mul-le-mul-right, mul-pos, eq-zero-or-pos, zero-mul}
+use native.Mathlib.Nat.{le-refl, le-trans, le-of-eq, lt-trans, mul-le-mul, mul-le-mul-right, eq-zero-or-pos, zero-mul}
 use native.Mathlib.Omega.{arith}
 use lib.Dec.{lit≤, lit<}
 use lib.IntN.{ℤ, pos, negℤ}
-use lib.Pow.{pow-pos}
 use lib.Ieee.{Float, binary64, minus, toBits, ofInt}
 use lib.Ieee.Bits.{ofBits-toBits}
 use lib.Ieee.Fits.{add-fits}
@@ -26,13 +25,13 @@ use Rattle.compound.proofs.Scaled.{times-scale}
 use Rattle.bounds.proofs.Values.{perOne, perOne-pos, mag, Number}
 use Rattle.bounds.proofs.Operation.{mul-near, nothing}
 use Rattle.bounds.proofs.Sums.{add-mag}
-use Rattle.bounds.proofs.Scales.{S, S-pos, unit, unit-left, Scale, Bound, Bounds, at, add-bound, mul-bound, mul-limit, fast-bounds}
+use Rattle.bounds.proofs.Scales.{S, unit, unit-left, Bound, Bounds, at, add-bound, mul-bound, mul-limit, fast-bounds}
 use Rattle.bounds.proofs.Compared.{Positive, positive-bound}
 use Rattle.bounds.proofs.Exactly.{Off, fmla-minus-one}
 use Rattle.answers.proofs.Slow.Coefficients.{inverse-log-hi, inverse-log-lo}
 use Rattle.answers.proofs.Slow.InverseSlot.{inverse-slot, inverse-size}
 use Rattle.answers.proofs.Slow.LogSize.{factor, fast-is, fast-factor, poly-size}
-use Rattle.answers.proofs.Slow.Logs.{Logs, far-whole, far-part, near}
+use Rattle.answers.proofs.Slow.Logs.{Logs, far-whole, far-part, on-own, near}
 use Rattle.answers.proofs.Slow.LowPart.{one-is-1, scale-size, low-part}
 use Rattle.answers.proofs.Slow.OnePlusParts.{Parted}
 use Rattle.answers.proofs.Slow.Reduced.{reduced-positive, Power, exponent-size, no-power, One, inverse-cases}
@@ -49,14 +48,7 @@ record ZeroPair (a : DoubleDouble) : Type 0 where
   lo-number : Number (a .lo)
   lo-zero : mag (a .lo) ≡ 0
 
--- q × 2^-53 and its scale
-on-own : (q : ℕ) → q * S ≡ 2 ^ 53 * (q * 2 ^ 968)
-unfolding S
-on-own q = go q (2 ^ 968)
-  where
-    go : (q k : ℕ) → q * (2 ^ 53 * k) ≡ 2 ^ 53 * (q * k)
-    go q k = omega arith
-
+-- 2 × 2^-53, on the scale of q × 2^-53
 two-parts : (q : ℕ) → 0 < q → 2 * S ≤ 2 ^ 54 * (q * 2 ^ 968)
 unfolding S
 two-parts q h = le-trans (lit≤ tt) (mul-le-mul (le-refl (2 ^ 54)) (mul-le-mul-right (2 ^ 968) h))
@@ -243,9 +235,8 @@ module _ (x : Float) (v : ℕ) (is-v : v ≡ toBits binary64 (one ⊕ x)) (low :
     near-case some =
         let q = off .parts in
         let σ = q * 2 ^ 968 in
-        let q-small : q ≤ 2 ^ 48 = le-of-mul-le-mul-right (le-trans (le-of-eq (sym (off .grid))) (le-trans (z-size .size) (mul-le-mul-right S (lit≤ tt)))) S-pos in
-        let scale : Scale σ = record { positive = mul-pos some (pow-pos 968); bounded = le-trans (mul-le-mul-right (2 ^ 968) q-small) (lit≤ tt) } in
-        let itself : Bound σ (2 ^ 53) z = record { scale = scale; number = off .number; size = le-of-eq (off .grid ∙ on-own q) } in
+        let itself = on-own z (off .number) q (off .grid) some z-size in
+        let scale = itself .scale in
         let low : Bound σ (2 ^ 54 + 2 ^ 10) (onePlus x .lo ⊗ s) = subst (Bound σ (2 ^ 54 + 2 ^ 10)) (sym (ap (λ (k : Float). onePlus x .lo ⊗ k) s-is ∙ mul-one binary64 (onePlus x .lo) (parted .lo-number .held))) (parted .near-low σ scale (two-parts q some) u-positive) in
         let unity : Bound S (2 ^ 53) r = subst (Bound S (2 ^ 53)) (sym r-is) (positive-bound one-is-1) in
         let f = fast-bounds itself (at (2 ^ 54 + 2 ^ 11) (mul-bound (unit-left scale) unity low tt tt) tt) tt in

@@ -217,8 +217,13 @@ module _ (z : Float) (n : Number z) (q : ℕ) (size : mag z ≡ q * S) (some : 0
   unfolding σ S
   σ-le = le-trans (mul-le-mul-right (2 ^ 968) q-small) (lit≤ tt)
 
+  pub on-own : Bound (q * 2 ^ 968) (2 ^ 53) z
+  unfolding σ
+  on-own = record { scale = z-scale; number = n; size = le-of-eq z-size }
+
   itself : Bound σ (2 ^ 53) z
-  itself = record { scale = z-scale; number = n; size = le-of-eq z-size }
+  unfolding σ
+  itself = on-own
 
   p : Float
   p = z ⊗ factor z

@@ -4,7 +4,7 @@ use mathlib.Core.Path.{_≡_, refl, sym, ap, _∙_, subst}
 use mathlib.Core.Logic.{_⊎_, inl, inr}
 use mathlib.Core.Bool.{true, false}
 use Prim.Native.Nat.{ℕ, _+_, _-_, _*_, _^_, _≤_, _<_}
-use native.Mathlib.Nat.{le-refl, le-trans, le-of-eq, le-of-lt, le-of-mul-le-mul-right, mul-assoc, mul-right-comm, mul-le-mul, mul-le-mul-right, le-add-right, zero-add, add-le-add, not-le-of-lt, one-mul}
+use native.Mathlib.Nat.{le-refl, le-trans, le-of-eq, le-of-lt, le-of-mul-le-mul-right, mul-comm, mul-assoc, mul-right-comm, mul-le-mul, mul-le-mul-right, le-add-right, zero-add, add-le-add, not-le-of-lt, one-mul}
 use native.Mathlib.Omega.{arith}
 use lib.Dec.{T, lit≤, lit<}
 use lib.IntN.{ℤ}
@@ -20,7 +20,7 @@ use Rattle.tables.specs.Tables.{entry, log2p1Scale}
 use Rattle.tables.proofs.Entries.{carried}
 use Rattle.compound.specs.Special.{one, minusOne}
 use Rattle.bounds.proofs.Values.{perOne, perOne-pos, plus, less, mag, one-side, Number}
-use Rattle.bounds.proofs.Operation.{limit, add-near, mul-near}
+use Rattle.bounds.proofs.Operation.{limit, Close, add-near, mul-near}
 use Rattle.bounds.proofs.Sums.{sum-small}
 use Rattle.bounds.proofs.Scales.{S, one-is, unit, unit-left, Bound, within, tested, mul-limit}
 use Rattle.bounds.proofs.Compared.{Positive, tested-positive, le-units, size-in-units}
@@ -46,6 +46,13 @@ f32-size (fin s m e) t p = le-of-lt (fits-top binary32 s m e t)
 pub f32-number : (x : Float) → T (fits binary32 x) → T (finite x) → Number x × (mag x ≤ 2 ^ 128 * perOne)
 f32-number x t p = size-in-units (2 ^ 128) x (fits-widens x t) (f32-size x t p)
 
+-- 2^181 on the scale of 1
+pub f32-bound : (x : Float) → Number x → mag x ≤ 2 ^ 128 * perOne → Bound S (2 ^ 181) x
+f32-bound x n h = record { scale = unit; number = n; size = le-trans h (le-of-eq (ap (λ (k : ℕ). 2 ^ 128 * k) one-is ∙ go (2 ^ 128) S (2 ^ 53))) }
+  where
+    go : (a s b : ℕ) → a * (s * b) ≡ a * b * s
+    go a s b = ap (λ (k : ℕ). a * k) (mul-comm s b) ∙ sym (mul-assoc a b s)
+
 -- above -1
 pub above-minus-one : (x : Float) → Number x → T (lt minusOne x) → less x ≤ plus x + perOne
 unfolding le perOne
@@ -55,6 +62,15 @@ above-minus-one x n h = le-trans (le-of-eq (sym (zero-add (less x)))) (le-units 
 pub sum-limit : (x : Float) → mag x ≤ 2 ^ 128 * perOne → 2 * (mag one + mag x) ≤ limit
 unfolding limit perOne
 sum-limit x h = le-trans (mul-le-mul (le-refl 2) (add-le-add (le-refl (mag one)) h)) (lit≤ tt)
+
+-- and it is the exact sum but for a rounding
+pub one-plus-near : (x : Float) → Number x → mag x ≤ 2 ^ 128 * perOne → Close (plus one + plus x) (less one + less x) (mag one + mag x) (one ⊕ x)
+one-plus-near x n size =
+    let d = mag one + mag x in
+    add-near d (one-is-1 .number) n (sum-small one x d (le-refl d)) (half d limit (sum-limit x size))
+  where
+    half : (d l : ℕ) → 2 * d ≤ l → d ≤ l
+    half d l h = omega arith
 
 -- ---- the sum is not small beside its terms
 -- 2^-24 at least, by its pattern
@@ -95,12 +111,8 @@ terms-small p n q m o k W (inr z) K O a l h = le-trans (le-of-eq (shorter z)) (o
 -- |1| + |x| is at most 2^25 of it
 pub sum-least : (x : Float) → Number x → less x ≤ plus x + perOne → mag x ≤ 2 ^ 128 * perOne → perOne ≤ 2 ^ 24 * mag (one ⊕ x) → mag one + mag x ≤ 2 ^ 25 * mag (one ⊕ x)
 sum-least x n above size least =
-    let d = mag one + mag x in
-    let c = add-near d (one-is-1 .number) n (sum-small one x d (le-refl d)) (half (mag one + mag x) limit (sum-limit x size)) in
+    let c = one-plus-near x n size in
     terms-small (plus x) (less x) (plus (one ⊕ x)) (less (one ⊕ x)) (plus one) (less one) perOne (one-side x) (one-is-1 .clear) one-mag above least (c .least)
-  where
-    half : (d l : ℕ) → 2 * d ≤ l → d ≤ l
-    half d l h = omega arith
 
 -- ---- the low part, with the power of two taken out
 -- the powers of two are at most 2^29

@@ -18,7 +18,7 @@ use Rattle.bounds.proofs.Sums.{sides, sum-small, fast-sum}
 use Rattle.bounds.proofs.Scales.{S, S-pos, one-is, Scale, Bound, at, sub-small-bound}
 use Rattle.bounds.proofs.Compared.{Positive, le-units}
 use Rattle.bounds.proofs.Exactly.{minus-one}
-use Rattle.answers.proofs.Slow.LowPart.{one-is-1, one-mag, sum-limit, sum-least}
+use Rattle.answers.proofs.Slow.LowPart.{one-is-1, one-mag, sum-limit, one-plus-near, sum-least}
 
 -- what is asked of x, in units
 pub record Above (x : Float) : Type 0 where
@@ -110,16 +110,12 @@ parted-high x a h =
   where
     impossible : Positive (2 ^ 52) (3 * 2 ^ 52) (one ⊕ x) → ⊥
     impossible p =
-        let d = mag one + mag x in
-        let c = add-near d (one-is-1 .number) (a .number) (sum-small one x d (le-refl d)) (half d limit (sum-limit x (a .size))) in
+        let c = one-plus-near x (a .number) (a .size) in
         let l = least (plus x) (less x) (plus one) (less one) perOne one-mag (one-is-1 .clear) (le-units one x (one-is-1 .number) (a .number) h) in
         let n = not-negative (plus x) (less x) perOne (one-side x) l in
         none S S-pos
         (too-far (plus x) (plus (one ⊕ x)) S perOne one-is (over (plus x) (less x) perOne l) (p .most) (plain-terms (plus x) (less x) (plus (one ⊕ x)) (less (one ⊕ x)) (plus one) (less one) perOne one-mag (one-is-1 .clear) (p .clear) n (c .least)))
       where
-        half : (d l : ℕ) → 2 * d ≤ l → d ≤ l
-        half d l h = omega arith
-
         none : (s : ℕ) → 0 < s → s ≡ 0 → ⊥
         none s h e = omega arith
 

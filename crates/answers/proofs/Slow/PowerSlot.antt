@@ -15,9 +15,9 @@ use Rattle.tables.specs.Tables.{entry, compoundfExp2T}
 use Rattle.tables.proofs.Entries.{exp2t-rule}
 use Rattle.compound.specs.Fast.{powerIndex}
 use Rattle.bounds.proofs.Values.{perOne, plus, less, Number, Units, by-value}
-use Rattle.bounds.proofs.Operation.{limit, Close, Small, add-near}
-use Rattle.bounds.proofs.Sums.{sum-small}
-use Rattle.bounds.proofs.Scales.{S, S-pos, one-is, unit, Bound, at, both-sizes, one-part, small-limit, sub-small-bound}
+use Rattle.bounds.proofs.Operation.{Small}
+use Rattle.bounds.proofs.Scales.{S, S-pos, one-is, unit, Bound, at, sub-small-bound}
+use Rattle.bounds.proofs.Distances.{sum-off}
 use Rattle.bounds.proofs.Compared.{Positive, tested-positive, positive-at, positive-bound, positive-add, place-in-32nds, quotient}
 
 -- ---- the values of the table, in units: (i - 16)/32
@@ -115,11 +115,9 @@ module _ (r : Float) (b : Bound S (65 * 2 ^ 46) r) where
       go n g h = omega arith
 
   -- the sum is within four parts of 2^53 of the exact one
-  exact : Close (plus three + plus r) (less three + less r) ((193 * 2 ^ 47 + 65 * 2 ^ 46) * S) w
+  off : Small (plus w + (less three + less r)) (less w + (plus three + plus r)) (4 * S)
   unfolding w
-  exact =
-      let d = (193 * 2 ^ 47 + 65 * 2 ^ 46) * S in
-      add-near d (three-is .number) (b .number) (sum-small three r d (both-sizes (positive-bound three-is) b)) (one-part d limit (small-limit (193 * 2 ^ 47 + 65 * 2 ^ 46) S tt (unit .bounded)) .0)
+  off = sum-off (positive-bound three-is) b tt
 
   pub power-slot : Slot r
   unfolding j
@@ -128,13 +126,12 @@ module _ (r : Float) (b : Bound S (65 * 2 ^ 46) r) where
       let T = exponent-of i inside in
       let q = quotient (plus w) (2 ^ 48 * S) parts-pos in
       let i80 : i + 80 ≡ j = ap (λ (n : ℕ). n + 80) index-is ∙ back j j-least in
-      let c = exact in
       let small = rest-small (plus w) (plus three) (plus r) (less r) (plus (entry compoundfExp2T i)) (less (entry compoundfExp2T i)) S (i * S)
       (three-plus) (T .is ∙ ap (λ (n : ℕ). less (entry compoundfExp2T i) + n) (shifted i S))
       (le-trans (le-of-eq (low-end i S)) (subst (λ (n : ℕ). n * (2 ^ 48 * S) ≤ plus w) (sym i80) (q .0)))
       (le-trans (le-of-lt (subst (λ (n : ℕ). plus w < (n + 1) * (2 ^ 48 * S)) (sym i80) (q .1))) (le-of-eq (sym (high-end i S))))
-      (over (plus w) (less w) (plus three) (less three) (plus r) (less r) S (three-is .clear) (sum-is .clear) (c .most))
-      (under (plus w) (less w) (plus three) (less three) (plus r) (less r) S (three-is .clear) (sum-is .clear) (c .least)) in
+      (over (plus w) (less w) (plus three) (less three) (plus r) (less r) S (three-is .clear) (sum-is .clear) (off .upper))
+      (under (plus w) (less w) (plus three) (less three) (plus r) (less r) S (three-is .clear) (sum-is .clear) (off .lower)) in
       record { inside = inside; rest = at (2 ^ 48 + 2 ^ 40) (sub-small-bound (2 ^ 47 + 4) unit (b .number) (T .number) small tt) tt }
     where
       back : (n : ℕ) → 80 ≤ n → n - 80 + 80 ≡ n
@@ -152,8 +149,8 @@ module _ (r : Float) (b : Bound S (65 * 2 ^ 46) r) where
       three-plus : plus three ≡ 193 * 2 ^ 47 * S
       three-plus = le-antisymm (three-is .most) (three-is .least)
 
-      over : (X n C m p q s : ℕ) → m ≡ 0 → n ≡ 0 → (X + (m + q)) * 2 ^ 53 ≤ (n + (C + p)) * 2 ^ 53 + (193 * 2 ^ 47 + 65 * 2 ^ 46) * s → X + q ≤ C + p + 4 * s
+      over : (X n C m p q s : ℕ) → m ≡ 0 → n ≡ 0 → X + (m + q) ≤ n + (C + p) + 4 * s → X + q ≤ C + p + 4 * s
       over X n C m p q s e f h = omega arith
 
-      under : (X n C m p q s : ℕ) → m ≡ 0 → n ≡ 0 → (n + (C + p)) * 2 ^ 53 ≤ (X + (m + q)) * 2 ^ 53 + (193 * 2 ^ 47 + 65 * 2 ^ 46) * s → C + p ≤ X + q + 4 * s
+      under : (X n C m p q s : ℕ) → m ≡ 0 → n ≡ 0 → n + (C + p) ≤ X + (m + q) + 4 * s → C + p ≤ X + q + 4 * s
       under X n C m p q s e f h = omega arith

@@ -5,7 +5,7 @@ use mathlib.Core.Path.{_≡_, refl, sym, ap, ap₂, _∙_, subst}
 use mathlib.Core.Logic.{_⊎_, inl, inr}
 use mathlib.Core.Bool.{Bool, true, false, not, cond, true≢false}
 use Prim.Native.Nat.{ℕ, zero, _+_, _-_, _*_, _/_, _%_, _^_, _≤_, _<_, zero-le}
-use native.Mathlib.Nat.{le-refl, le-trans, le-of-eq, le-of-lt, lt-of-lt-of-le, le-of-mul-le-mul-right, mul-assoc, mul-comm, mul-le-mul, mul-le-mul-right, mul-pos, zero-mul, one-mul, zero-add, add-zero, mul-one, add-le-add, not-le-of-lt}
+use native.Mathlib.Nat.{le-refl, le-trans, le-of-eq, le-of-lt, lt-of-lt-of-le, le-of-mul-le-mul-right, mul-assoc, mul-le-mul, mul-le-mul-right, mul-pos, zero-mul, one-mul, zero-add, add-zero, mul-one, add-le-add, not-le-of-lt}
 use native.Mathlib.Omega.{arith}
 use borrow.Author.Tests.{le-ltb}
 use lib.Dec.{T, leb, ltb, lit≤, lit<}
@@ -40,7 +40,7 @@ use Rattle.answers.proofs.Slow.ExpSign.{index-inside, away-clear}
 use Rattle.answers.proofs.Slow.LogCases.{Nil, parted-logs}
 use Rattle.answers.proofs.Slow.Logs.{Logs}
 use Rattle.answers.proofs.Slow.Lost.{lost-logs}
-use Rattle.answers.proofs.Slow.LowPart.{one-is-1, f32-number, above-minus-one, least-units}
+use Rattle.answers.proofs.Slow.LowPart.{one-is-1, f32-number, f32-bound, above-minus-one, least-units}
 use Rattle.answers.proofs.Slow.OnePlusParts.{Above, Parted, parted-low, parted-high}
 use Rattle.answers.proofs.Signs.Plain.{plain-narrowed}
 use Rattle.answers.proofs.Signs.TableValues.{SlowClear}
@@ -66,10 +66,7 @@ module _ (x : Float) (f : T (fits binary32 x)) (p : T (finite x)) (h : T (lt min
   num = f32-number x f p
 
   on-scale : Bound S (2 ^ 181) x
-  on-scale = record { scale = unit; number = num .0; size = le-trans (num .1) (le-of-eq (ap (λ (k : ℕ). 2 ^ 128 * k) one-is ∙ go (2 ^ 128) S (2 ^ 53))) }
-    where
-      go : (a s b : ℕ) → a * (s * b) ≡ a * b * s
-      go a s b = ap (λ (k : ℕ). a * k) (mul-comm s b) ∙ sym (mul-assoc a b s)
+  on-scale = f32-bound x (num .0) (num .1)
 
   -- where hi is the f64 sum
   by-parts : (v : DoubleDouble) → onePlus x ≡ v → v .hi ≡ one ⊕ x → (Above x → Parted x v) → Logs (compoundfLog2p1Fast x) (compoundfLog2p1Accurate x) ⊎ Nil (compoundfLog2p1Fast x)
@@ -151,10 +148,7 @@ large-scale = lit≤ tt
 
 module _ (l y : Float) (L : DoubleDouble) (logs : Logs l L) (Y : Number y) (y-most : mag y ≤ 2 ^ 128 * perOne) (T-size : mag (l ⊗ y) ≤ 150 * perOne) where
   y-bound : Bound S (2 ^ 181) y
-  y-bound = record { scale = unit; number = Y; size = le-trans y-most (le-of-eq (ap (λ (k : ℕ). 2 ^ 128 * k) one-is ∙ go (2 ^ 128) S (2 ^ 53))) }
-    where
-      go : (a s b : ℕ) → a * (s * b) ≡ a * b * s
-      go a s b = ap (λ (k : ℕ). a * k) (mul-comm s b) ∙ sym (mul-assoc a b s)
+  y-bound = f32-bound y Y y-most
 
   sizes : mag l * mag y ≤ 151 * (perOne * perOne)
   sizes =
