@@ -1,0 +1,47 @@
+-- Document 01, "Batch lines and the reader's state": its NaN pattern, and lines as the definitions read and answer them, computed. Assumes nothing.
+use mathlib.Core.Path.{_≡_, refl, ap, _∙_}
+use mathlib.Core.List.{List, [], _∷_}
+use Prim.Native.Nat.{ℕ}
+use lib.Ieee.{nan, binary32, ofBits, toBits}
+use lib.ListN.{getD}
+use Rattle.compound.specs.Answer.{whole, Outcome, word}
+use Rattle.compound.proofs.Examples.{starred-pairs}
+use Rattle.lines.specs.Bytes.{begins, all, leading}
+use Rattle.lines.specs.Digits.{glyph, digits, places, decimal, hex, isDecimal, isHex, digitValue, valueFrom, value}
+use Rattle.lines.specs.Format.{idDigits, isD, hasId, afterId, hexDigits, hasHex, hasX, afterX, hasY, readLine}
+use Rattle.lines.specs.Reply.{answered, answerTo, replyTo, ending, written}
+use Rattle.lines.specs.declared.Line.{Line}
+use Rattle.lines.specs.declared.Line.the-variants.{Pair, NoId}
+
+-- "A NaN answer is the pattern 7fc00000."
+pub nan-pattern : toBits binary32 nan ≡ 0x7fc00000
+unfolding toBits
+nan-pattern = refl
+
+-- `id=7 x=3f000000 y=40000000`
+abbrev pub seven : List ℕ
+seven =
+    105 ∷ 100 ∷ 61 ∷ 55 ∷ 32 ∷ 120 ∷ 61 ∷ 51 ∷ 102 ∷ 48 ∷ 48 ∷ 48 ∷ 48 ∷ 48 ∷ 48 ∷ 32 ∷ 121 ∷ 61 ∷ 52 ∷ 48 ∷ 48 ∷ 48 ∷ 48 ∷ 48 ∷ 48 ∷ 48 ∷ []
+
+-- it says its id and the patterns of 0.5 and 2
+pub seven-read : readLine seven ≡ Pair 7 0x3f000000 0x40000000
+unfolding begins all leading isDecimal isHex digitValue valueFrom value idDigits isD hasId afterId hexDigits hasHex hasX afterX hasY readLine
+seven-read = refl
+
+-- "D is 0 to 65535 in decimal without leading zeros": `id=07 x=3f000000 y=40000000` is refused
+pub leading-zero : readLine (105 ∷ 100 ∷ 61 ∷ 48 ∷ 55 ∷ 32 ∷ 120 ∷ 61 ∷ 51 ∷ 102 ∷ 48 ∷ 48 ∷ 48 ∷ 48 ∷ 48 ∷ 48 ∷ 32 ∷ 121 ∷ 61 ∷ 52 ∷ 48 ∷ 48 ∷ 48 ∷ 48 ∷ 48 ∷ 48 ∷ 48 ∷ []) ≡ NoId
+unfolding begins all leading isDecimal isHex digitValue valueFrom value idDigits isD hasId readLine
+leading-zero = refl
+
+-- "An empty line is 2"
+pub empty-line : readLine [] ≡ NoId
+unfolding begins hasId readLine
+empty-line = refl
+
+-- 1.5^2 is 2.25: it is answered with `id=7 r=40100000 via=whole` and a feed
+pub seven-answered :
+    written (replyTo seven) ≡
+    105 ∷ 100 ∷ 61 ∷ 55 ∷ 32 ∷ 114 ∷ 61 ∷ 52 ∷ 48 ∷ 49 ∷ 48 ∷ 48 ∷ 48 ∷ 48 ∷ 48 ∷ 32 ∷ 118 ∷ 105 ∷ 97 ∷ 61 ∷ 119 ∷ 104 ∷ 111 ∷ 108 ∷ 101 ∷ 10 ∷ []
+unfolding ofBits toBits glyph digits places decimal hex word answerTo replyTo ending written
+seven-answered =
+    ap (λ (r : Line). written (answerTo r)) seven-read ∙ ap (λ (o : Outcome). written (answered 7 o)) (ap (λ (l : List Outcome). getD l 6 (record { via = whole; value = nan })) starred-pairs)

@@ -1,0 +1,87 @@
+// Digits: a byte's value, and the digits of a number put at a place.
+ghost use mathlib.Core.Path.{_≡_};
+ghost use Prim.Native.Nat.{_+_, _≤_, _<_};
+ghost use mathlib.Core.Bool.{true, cond};
+ghost use lib.ListN.{length};
+ghost use Rattle.lines.specs.Bytes.{put};
+ghost use Rattle.lines.specs.Digits.{isHex, digitValue};
+ghost use Rattle.lines.specs.Digits.{glyph as Digits·glyph, digits as Digits·digits, places as Digits·places};
+
+// 0 for a hexadecimal digit, 1 for another byte: to be added up without a branch.
+pub(crate) fn not_hex(b: u8) -> u32
+    ensures { λ r. ⌜ r ≡ cond (isHex b) 0 1 ⌝ }
+{
+    match b {
+        48..=57 => 0,
+        97..=102 => 0,
+        _ => 1,
+    }
+}
+
+// The value of a hexadecimal digit: the low half of its code, and 9 more for a letter.
+pub(crate) fn hex_value(b: u8) -> u32
+    requires { ⌜ isHex b ≡ true ⌝ }
+    ensures { λ r. ⌜ r ≡ digitValue b ⌝ }
+{
+    (b % 16 + b / 64 * 9) as u32
+}
+
+// The ASCII code of a digit.
+pub(crate) fn glyph(d: u32) -> u8
+    requires { ⌜ d < 16 ⌝ }
+    ensures { λ r. ⌜ r ≡ Digits·glyph d ⌝ }
+{
+    if d < 10 { 48 + d as u8 } else { 87 + d as u8 }
+}
+
+// How many decimal digits n has.
+pub(crate) fn places(n: u32) -> usize
+    ensures { λ r. ⌜ r ≡ Digits·places 9 n ⌝ }
+{
+    if n < 10 {
+        return 1;
+    }
+    if n < 100 {
+        return 2;
+    }
+    if n < 1000 {
+        return 3;
+    }
+    if n < 10_000 {
+        return 4;
+    }
+    if n < 100_000 {
+        return 5;
+    }
+    if n < 1_000_000 {
+        return 6;
+    }
+    if n < 10_000_000 {
+        return 7;
+    }
+    if n < 100_000_000 {
+        return 8;
+    }
+    if n < 1_000_000_000 {
+        return 9;
+    }
+    10
+}
+
+// Puts the last k digits of n in a base at the place `at`, and answers the place after them.
+pub(crate) fn put_digits(n: u32, base: u32, k: usize, out: &mut [u8], at: usize) -> usize
+    requires { ⌜ 1 < base ⌝ }
+    requires { ⌜ base ≤ 16 ⌝ }
+    requires { ⌜ at + k ≤ length (now out) ⌝ }
+    ensures { λ r. ⌜ r ≡ at + k ⌝ }
+    ensures { λ _. ⌜ now (out .exit) ≡ put (now (out .entry)) at (Digits·digits base k n) ⌝ }
+{
+    let mut i = k;
+    let mut rest = n;
+    while i > 0 {
+        i -= 1;
+        out[at + i] = glyph(rest % base);
+        rest /= base;
+    }
+    at + k
+}

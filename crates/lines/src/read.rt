@@ -1,0 +1,191 @@
+// Reading an input line.
+use crate::LARGEST_ID;
+use crate::LONGEST;
+use crate::Line;
+use crate::digits::hex_value;
+use crate::digits::not_hex;
+ghost use mathlib.Core.Path.{_≡_};
+ghost use mathlib.Core.Bool.{true};
+ghost use Prim.Native.Nat.{_+_, _≤_, _<_};
+ghost use lib.Dec.{eqb};
+ghost use lib.ListN.{length, getD};
+ghost use Rattle.lines.specs.Bytes.{all};
+ghost use Rattle.lines.specs.Digits.{isHex, value};
+ghost use Rattle.lines.specs.Fields.{numberAt, dAt, idOf, eightAt, hAt, hexAt};
+ghost use Rattle.lines.specs.Format.{readLine};
+
+// What reading a field finds: its value and the place after it.
+pub(crate) enum Field {
+    Read(u32, usize),
+    Missing,
+}
+
+// Whether a byte, not 0, stands at a place.
+fn stands(line: &[u8], at: usize, b: u8) -> bool
+    requires { ⌜ 0 < b ⌝ }
+    ensures { λ r. ⌜ r ≡ eqb (getD (now (line .entry)) at 0) b ⌝ }
+{
+    if at < line.len() {
+        line[at] == b
+    } else {
+        false
+    }
+}
+
+// The number that the decimal digits at a place say, if it is an id.
+fn read_decimal(line: &[u8], from: usize) -> Field
+    requires { ⌜ from ≤ length (now line) ⌝ }
+    ensures { λ r. ⌜ r ≡ numberAt from (now (line .entry)) ⌝ }
+{
+    let mut n = 0;
+    let mut at = from;
+    while at < line.len() {
+        let b = line[at];
+        if b < 48 {
+            return Field::Read(n, at);
+        }
+        if 57 < b {
+            return Field::Read(n, at);
+        }
+        n = n * 10 + (b - 48) as u32;
+        if LARGEST_ID < n {
+            return Field::Missing;
+        }
+        at += 1;
+    }
+    Field::Read(n, at)
+}
+
+// The D at a place.
+fn read_d(line: &[u8], from: usize) -> Field
+    requires { ⌜ from ≤ length (now line) ⌝ }
+    ensures { λ r. ⌜ r ≡ dAt from (now (line .entry)) ⌝ }
+{
+    let Field::Read(d, end) = read_decimal(line, from) else {
+        return Field::Missing;
+    };
+    if end == from {
+        return Field::Missing;
+    }
+    if end - from > 1 {
+        if line[from] == 48 {
+            return Field::Missing;
+        }
+    }
+    Field::Read(d, end)
+}
+
+// `id=`, D, a space: D, and the place after these.
+fn read_id(line: &[u8]) -> Field
+    ensures { λ r. ⌜ r ≡ idOf (now (line .entry)) ⌝ }
+{
+    if !stands(line, 0, 105) {
+        return Field::Missing;
+    }
+    if !stands(line, 1, 100) {
+        return Field::Missing;
+    }
+    if !stands(line, 2, 61) {
+        return Field::Missing;
+    }
+    let Field::Read(d, end) = read_d(line, 3) else {
+        return Field::Missing;
+    };
+    if stands(line, end, 32) {
+        Field::Read(d, end + 1)
+    } else {
+        Field::Missing
+    }
+}
+
+// Whether the eight bytes at a place are hexadecimal digits. All eight are looked at: which of them
+// are letters is no pattern that a branch could foresee.
+fn all_hex(line: &[u8], from: usize) -> bool
+    requires { ⌜ from + 8 ≤ length (now line) ⌝ }
+    ensures { λ r. ⌜ r ≡ all isHex (eightAt from (now (line .entry))) ⌝ }
+{
+    let mut others = 0;
+    for i in 0..8usize {
+        others += not_hex(line[from + i]);
+    }
+    others == 0
+}
+
+// The number that the eight hexadecimal digits at a place say.
+fn hex_number(line: &[u8], from: usize) -> u32
+    requires { ⌜ from + 8 ≤ length (now line) ⌝ }
+    requires { ⌜ all isHex (eightAt from (now line)) ≡ true ⌝ }
+    ensures { λ r. ⌜ r ≡ value 16 (eightAt from (now (line .entry))) ⌝ }
+{
+    let mut n = 0;
+    for i in 0..8usize {
+        n = n * 16 + hex_value(line[from + i]);
+    }
+    n
+}
+
+// The H at a place.
+fn read_h(line: &[u8], from: usize) -> Field
+    requires { ⌜ from ≤ length (now line) ⌝ }
+    ensures { λ r. ⌜ r ≡ hAt from (now (line .entry)) ⌝ }
+{
+    if line.len() - from < 8 {
+        return Field::Missing;
+    }
+    if all_hex(line, from) {
+        return Field::Read(hex_number(line, from), from + 8);
+    }
+    Field::Missing
+}
+
+// A key, `=`, H: H, and the place after these.
+fn read_field(line: &[u8], at: usize, key: u8) -> Field
+    requires { ⌜ 0 < key ⌝ }
+    ensures { λ r. ⌜ r ≡ hexAt key at (now (line .entry)) ⌝ }
+{
+    if !stands(line, at, key) {
+        return Field::Missing;
+    }
+    if !stands(line, at + 1, 61) {
+        return Field::Missing;
+    }
+    read_h(line, at + 2)
+}
+
+// The same, by way of the part of the line from there on: where the line itself is passed on, it is
+// copied, and the copy waits for the line to be written.
+fn read_hex(line: &[u8], at: usize, key: u8) -> Field
+    requires { ⌜ 0 < key ⌝ }
+    requires { ⌜ at ≤ length (now line) ⌝ }
+    ensures { λ r. ⌜ r ≡ hexAt key at (now (line .entry)) ⌝ }
+{
+    let Field::Read(n, end) = read_field(&line[at..], 0, key) else {
+        return Field::Missing;
+    };
+    Field::Read(n, at + end)
+}
+
+// What a line says, or why it is refused.
+pub fn read_line(line: &[u8]) -> Line
+    ensures { λ r. ⌜ r ≡ readLine (now (line .entry)) ⌝ }
+{
+    if line.len() > LONGEST {
+        return Line::TooLong;
+    }
+    let Field::Read(id, from_x) = read_id(line) else {
+        return Line::NoId;
+    };
+    let Field::Read(x, after_x) = read_hex(line, from_x, 120) else {
+        return Line::NoX;
+    };
+    if !stands(line, after_x, 32) {
+        return Line::NoX;
+    }
+    let Field::Read(y, end) = read_hex(line, after_x + 1, 121) else {
+        return Line::NoY;
+    };
+    if end != line.len() {
+        return Line::NoY;
+    }
+    Line::Pair(id, x, y)
+}
