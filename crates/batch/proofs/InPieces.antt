@@ -1,0 +1,224 @@
+-- An input fed in pieces: a list of calls that grows at its end, and what demand 3 says of it when all is fed. Assumes nothing.
+use Prim.Native.Nat.{ℕ, _+_, _-_, _≤_, _<_}
+use native.Mathlib.Omega.{arith}
+use mathlib.Core.Path.{_≡_, refl, sym, ap, _∙_}
+use mathlib.Core.Bool.{Bool, true, false, cond}
+use mathlib.Core.List.{List, [], _∷_, _++_, append-nil, append-assoc}
+use lib.Dec.{eqb, ltb}
+use lib.ListN.{length, take, drop, length-append, length-drop, drop-of-length-le, take-append-drop}
+use lib.Seq.{take-at, drop-at, drop-drop, take-all, take-add, drop-append-add}
+use borrow.Author.Tests.{le-ltb}
+use Rattle.batch.specs.declared.State.{State}
+use Rattle.batch.specs.declared.Fed.{Fed}
+use Rattle.batch.specs.declared.Tail.{Tail}
+use Rattle.batch.specs.declared.Tallies.{Tallies}
+use Rattle.batch.specs.declared.Verdict.{Verdict}
+use Rattle.batch.specs.declared.Verdict.the-variants.{Accepted, Broken, TooManyLines, NoRoom}
+use Rattle.batch.specs.Complete.{linesFrom, lines, rest, feeds}
+use Rattle.batch.specs.Holding.{hold, fresh}
+use Rattle.batch.specs.Feed.{mostLines, answerLines, added, after, verdict, number, stateAfter, outAfter, fed, Did}
+use Rattle.batch.specs.Series.{Call, Calls, stateOf, isAccepted, accepted, said, wrote, wroteAll, adds, due, Obeyed, Served, Always, InPieces}
+use Rattle.batch.proofs.Cutting.{feeds-append}
+use Rattle.batch.proofs.Carrying.{after-all, after-none, verdict-due, after-more, answers-added}
+use Rattle.batch.proofs.EverySeries.{every-series, due-few, due-fits}
+
+-- a list of calls with one more
+module _ (c : Call) where
+  calls-more : (s : State) (cs : List Call) → Calls Did s cs → Did (stateOf s cs) (c .piece) (c .out) (c .returned) (c .out-after) → Calls Did s (cs ++ c ∷ [])
+  unfolding Calls stateOf
+  calls-more s [] ds d = (d, tt)
+  calls-more s (b ∷ cs) (e, ds) d = (e, calls-more (b .returned .state) cs ds d)
+
+  state-more : (s : State) (cs : List Call) → stateOf s (cs ++ c ∷ []) ≡ c .returned .state
+  unfolding stateOf
+  state-more s [] = refl
+  state-more s (b ∷ cs) = state-more (b .returned .state) cs
+
+  accepted-more : (cs : List Call) → accepted (cs ++ c ∷ []) ≡ accepted cs ++ cond (isAccepted c) (c .piece) []
+  unfolding accepted
+  accepted-more [] = append-nil (cond (isAccepted c) (c .piece) [])
+  accepted-more (b ∷ cs) =
+      ap (λ (k : List ℕ). cond (isAccepted b) (b .piece) [] ++ k) (accepted-more cs)
+      ∙ sym (append-assoc (cond (isAccepted b) (b .piece) []) (accepted cs) (cond (isAccepted c) (c .piece) []))
+
+  wrote-more : (cs : List Call) → wroteAll (cs ++ c ∷ []) ≡ wroteAll cs ++ wrote c
+  unfolding wroteAll
+  wrote-more [] = append-nil (wrote c)
+  wrote-more (b ∷ cs) = ap (λ (k : List ℕ). wrote b ++ k) (wrote-more cs) ∙ sym (append-assoc (wrote b) (wroteAll cs) (wrote c))
+
+-- the calls cs have taken the input as far as `from`, and written `at` bytes of the output
+pub record Come (input out₀ out : List ℕ) (s : State) (from at : ℕ) (cs : List Call) : Type 0 where
+  pub calls : Calls Did fresh cs
+  pub state-is : stateOf fresh cs ≡ s
+  pub taken-is : accepted cs ≡ take from input
+  pub from-within : from ≤ length input
+  pub out-is : out ≡ wroteAll cs ++ drop at out₀
+  pub at-is : length (wroteAll cs) ≡ at
+  pub at-within : at ≤ length out₀
+  pub few : feeds (accepted cs) ≤ mostLines
+
+-- at the start
+pub begun : (input out : List ℕ) → Come input out out fresh 0 0 []
+unfolding Calls stateOf accepted wroteAll feeds
+begun input out = record { calls = tt; state-is = refl; taken-is = refl; from-within = omega arith; out-is = refl; at-is = refl; at-within = omega arith; few = omega arith }
+
+module _ (input out₀ out : List ℕ) (s : State) (from at : ℕ) (cs : List Call) (m : Come input out₀ out s from at cs) where
+  -- the output keeps its length
+  pub come-length : length out ≡ length out₀
+  come-length =
+      ap length (m .out-is)
+      ∙ length-append (wroteAll cs) (drop at out₀)
+      ∙ (let a : length (wroteAll cs) ≡ at = m .at-is in let b : length (drop at out₀) ≡ length out₀ - at = length-drop at out₀ in let w : at ≤ length out₀ = m .at-within in omega arith)
+
+  front-is : take at out ≡ wroteAll cs
+  front-is = ap (take at) (m .out-is) ∙ take-at (wroteAll cs) (drop at out₀) at (m .at-is)
+
+  back-is : drop at out ≡ drop at out₀
+  back-is = ap (drop at) (m .out-is) ∙ drop-at (wroteAll cs) (drop at out₀) at (m .at-is)
+
+  pub come-within : at ≤ length out
+  come-within = let a : at ≤ length out₀ = m .at-within in let b : length out ≡ length out₀ = come-length in omega arith
+
+  -- nothing follows what is left of the output
+  out-end : drop (length out - at) (drop at out) ≡ []
+  out-end = drop-of-length-le (drop at out) {i = length out - at} (let e : length (drop at out) ≡ length out - at = length-drop at out in omega arith)
+
+  -- one call more, on what is left of the output
+  module _ (to : ℕ) (h : from < to) (g : to ≤ length input) (r : Fed) (part : List ℕ) (q : List ℕ) (qe : q ≡ drop at out) (d : Did s (take (to - from) (drop from input)) q r part) where
+    abbrev pub call : Call
+    call = record { piece = take (to - from) (drop from input); out = q; returned = r; out-after = part }
+
+    more-calls : Calls Did fresh (cs ++ call ∷ [])
+    more-calls = calls-more call fresh cs (m .calls) (rw (m .state-is) d)
+
+    obeyed : Obeyed cs call
+    unfolding Always
+    obeyed = every-series (cs ++ call ∷ []) more-calls .each-call cs call [] refl
+
+    -- it never returns 5
+    pub not-broken : r .verdict ≡ Broken → ⊥
+    not-broken = obeyed .never-five
+
+    -- if it is refused, the output is as it was, and nothing is claimed of the whole
+    module _ (no : eqb (number (r .verdict)) 0 ≡ false) where
+      was-refused : isAccepted call ≡ false
+      unfolding isAccepted
+      was-refused = no
+
+      pub refused-length : length (take at out ++ (part ++ drop (length out - at) (drop at out))) ≡ length out₀
+      refused-length =
+          ap (λ (k : List ℕ). length (take at out ++ (part ++ k))) out-end
+          ∙ ap (λ (k : List ℕ). length (take at out ++ k)) (append-nil part ∙ obeyed .refused-leaves was-refused .1 ∙ qe)
+          ∙ ap length (take-append-drop at out)
+          ∙ come-length
+
+      pub refused-pieces : (out′ : List ℕ) → InPieces input out₀ r out′
+      unfolding number
+      refused-pieces out′ =
+          record {
+            as-whole = λ n e. absurd (let f : true ≡ false = sym (ap (λ (v : Verdict). eqb (number v) 0) e) ∙ no in let z : _≡_ {A = ℕ} 0 1 = cc in omega arith);
+            never-broken = not-broken;
+          }
+
+    -- if it is accepted, the input is taken further
+    module _ (n : ℕ) (e : r .verdict ≡ Accepted n) where
+      n-said : said (r .verdict) ≡ n
+      unfolding said
+      n-said = ap said e
+
+      was-accepted : isAccepted call ≡ true
+      unfolding isAccepted number
+      was-accepted = ap (λ (v : Verdict). eqb (number v) 0) e
+
+      n-fits : n ≤ length q
+      n-fits = due-fits (accepted cs) (call .piece) (length q) n (sym (obeyed .verdict-due) ∙ e)
+
+      -- what it wrote, and the output after it
+      wrote-n : length (wrote call) ≡ n
+      wrote-n = obeyed .wrote-said ∙ n-said
+
+      part-is : part ≡ wrote call ++ drop (at + n) out₀
+      part-is =
+          obeyed .rest-kept
+          ∙ ap (λ (k : ℕ). wrote call ++ drop k q) n-said
+          ∙ ap (λ (k : List ℕ). wrote call ++ drop n k) (qe ∙ back-is)
+          ∙ ap (λ (k : List ℕ). wrote call ++ k) (drop-drop n at out₀)
+
+      pub come-on : Come input out₀ (take at out ++ (part ++ drop (length out - at) (drop at out))) (r .state) to (at + n) (cs ++ call ∷ [])
+      come-on =
+          record {
+            calls = more-calls;
+            state-is = state-more call fresh cs;
+            taken-is =
+                accepted-more call cs
+                ∙ ap (λ (b : Bool). accepted cs ++ cond b (take (to - from) (drop from input)) []) was-accepted
+                ∙ ap (λ (k : List ℕ). k ++ take (to - from) (drop from input)) (m .taken-is)
+                ∙ sym (take-add from (to - from) input)
+                ∙ ap (λ (k : ℕ). take k input) (sum from to h);
+            from-within = g;
+            out-is =
+                ap (λ (k : List ℕ). take at out ++ (part ++ k)) out-end
+                ∙ ap (λ (k : List ℕ). take at out ++ k) (append-nil part ∙ part-is)
+                ∙ ap (λ (k : List ℕ). k ++ (wrote call ++ drop (at + n) out₀)) front-is
+                ∙ sym (append-assoc (wroteAll cs) (wrote call) (drop (at + n) out₀))
+                ∙ ap (λ (k : List ℕ). k ++ drop (at + n) out₀) (sym (wrote-more call cs));
+            at-is = ap length (wrote-more call cs) ∙ length-append (wroteAll cs) (wrote call) ∙ (let a : length (wroteAll cs) ≡ at = m .at-is in let b : length (wrote call) ≡ n = wrote-n in omega arith);
+            at-within =
+                let a : at ≤ length out₀ = m .at-within in
+                let b : n ≤ length q = n-fits in
+                let f : length q ≡ length out₀ - at = ap length (qe ∙ back-is) ∙ length-drop at out₀ in
+                omega arith;
+            few =
+                rw (accepted-more call cs, was-accepted, feeds-append (accepted cs) (call .piece))
+                (due-few (accepted cs) (call .piece) (length q) n (sym (obeyed .verdict-due) ∙ e));
+          }
+        where
+          sum : (from to : ℕ) → from < to → from + (to - from) ≡ to
+          sum from to h = omega arith
+
+  -- when all is taken, it is as if the input had been fed whole
+  module _ (over : length input ≤ from) where
+    served : Served cs
+    unfolding Always
+    served = every-series cs (m .calls)
+
+    all-taken : accepted cs ≡ input
+    all-taken = m .taken-is ∙ take-all from input over
+
+    state-whole : s ≡ after-all input
+    unfolding after-all
+    state-whole =
+        sym (m .state-is)
+        ∙ ap (λ (k : Tail). record { tail = k; lines = stateOf fresh cs .lines; tallies = stateOf fresh cs .tallies }) (served .tail-held)
+        ∙ ap (λ (k : ℕ). record { tail = hold (rest (accepted cs)); lines = k; tallies = stateOf fresh cs .tallies }) (served .lines-counted)
+        ∙ ap (λ (k : Tallies). record { tail = hold (rest (accepted cs)); lines = length (lines (accepted cs)); tallies = k }) (served .tallies-counted)
+        ∙ ap after-all all-taken
+
+    wrote-whole : wroteAll cs ≡ answerLines (lines input)
+    wrote-whole = served .bytes-written ∙ ap (λ (k : List ℕ). answerLines (lines k)) all-taken
+
+    -- the answers are those of the whole input
+    from-fresh : answerLines (added fresh input) ≡ answerLines (lines input)
+    unfolding adds lines linesFrom
+    from-fresh = ap (λ (k : State). answerLines (added k input)) (sym after-none) ∙ answers-added [] input
+
+    verdict-whole : verdict fresh input (length out₀) ≡ Accepted at
+    unfolding due adds lines linesFrom feeds after-all
+    verdict-whole =
+        let n : at ≡ length (answerLines (lines input)) = sym (m .at-is) ∙ ap length wrote-whole in
+        let w : at ≤ length out₀ = m .at-within in
+        let f : feeds input ≤ mostLines = rw all-taken at (m .few) in
+        ap (λ (k : State). verdict k input (length out₀)) (sym after-none)
+        ∙ verdict-due [] input (length out₀)
+        ∙ rw (le-ltb mostLines (0 + feeds input) (omega arith), le-ltb (length out₀) (length (answerLines (lines input))) (omega arith))
+        (ap Accepted (sym n))
+
+    pub as-whole : Did fresh input out₀ (record { state = s; verdict = Accepted at }) out
+    unfolding fed stateAfter outAfter
+    as-whole =
+        record {
+          result =
+              ap (λ (k : State). record { state = k; verdict = Accepted at }) (state-whole ∙ sym (ap (λ (k : State). after k input) (sym after-none) ∙ after-more [] input))
+              ∙ ap (λ (v : Verdict). record { state = stateAfter v fresh input; verdict = v }) (sym verdict-whole);
+          output = m .out-is ∙ ap (λ (k : List ℕ). k ++ drop at out₀) (wrote-whole ∙ sym from-fresh);
+        }

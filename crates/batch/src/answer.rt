@@ -1,0 +1,96 @@
+// Answering the lines of a piece.
+use crate::Fed;
+use crate::State;
+use crate::Tallies;
+use crate::Verdict;
+use crate::held::empty;
+use crate::held::extended;
+use crate::held::reply_to_tail;
+use crate::scan::line_end;
+use crate::tally::counted;
+use crate::tally::total;
+use lines::Reply;
+ghost use mathlib.Core.Path.{_≡_};
+ghost use Prim.Native.Nat.{_+_, _≤_, _<_};
+ghost use lib.ListN.{length, drop};
+ghost use Rattle.lines.specs.Bytes.{put};
+ghost use Rattle.lines.specs.Reply.{told, written};
+ghost use Rattle.batch.specs.Complete.{rest, lines as Complete·lines, feeds as Complete·feeds};
+ghost use Rattle.batch.specs.Tally.{total as Tally·total, counts, plus, one};
+ghost use Rattle.batch.specs.Holding.{Sound};
+ghost use Rattle.batch.specs.Feed.{replies, answerLines, added, after, mostLines};
+
+// How far the answering has come: the place after the bytes written, the place after the last line
+// feed, the tallies.
+pub struct Progress {
+    pub at: usize,
+    pub from: usize,
+    pub tallies: Tallies,
+}
+
+// Takes a piece whose answer lines have room.
+pub(crate) fn take_piece(state: State, piece: &[u8], out: &mut [u8]) -> Fed
+    requires { ⌜ Sound (state .tail) ⌝ }
+    requires { ⌜ Tally·total (state .tallies) ≡ state .lines ⌝ }
+    requires { ⌜ state .lines + Complete·feeds (now piece) ≤ mostLines ⌝ }
+    requires { ⌜ length (answerLines (added state (now piece))) ≤ length (now out) ⌝ }
+    ensures { λ r. ⌜ r ≡ record { state = after state (now (piece .entry)); verdict = Verdict.Accepted (length (answerLines (added state (now (piece .entry))))) } ⌝ }
+    ensures { λ _. ⌜ now (out .exit) ≡ put (now (out .entry)) 0 (answerLines (added state (now (piece .entry)))) ⌝ }
+{
+    let tail = state.tail;
+    let tallies = state.tallies;
+    let end = line_end(piece, 0);
+    let line = extended(tail, &piece[..end]);
+    if end == piece.len() {
+        return Fed {
+            state: State {
+                tail: line,
+                lines: state.lines,
+                tallies,
+            },
+            verdict: Verdict::Accepted(0),
+        };
+    }
+    let reply = reply_to_tail(line);
+    let at = lines::write_reply(reply, out, 0);
+    let done = answer_lines(piece, end + 1, counted(tallies, reply), out, at);
+    let from = done.from;
+    let left = extended(empty(), &piece[from..]);
+    let counts = done.tallies;
+    Fed {
+        state: State {
+            tail: left,
+            lines: total(counts) as u32,
+            tallies: counts,
+        },
+        verdict: Verdict::Accepted(done.at),
+    }
+}
+
+// Answers the complete lines from `from` on.
+fn answer_lines(piece: &[u8], from: usize, tallies: Tallies, out: &mut [u8], at: usize) -> Progress
+    requires { ⌜ from ≤ length (now piece) ⌝ }
+    requires { ⌜ Tally·total tallies + Complete·feeds (drop from (now piece)) ≤ mostLines ⌝ }
+    requires { ⌜ at + length (answerLines (Complete·lines (drop from (now piece)))) ≤ length (now out) ⌝ }
+    ensures { λ r. ⌜ r .at ≡ at + length (answerLines (Complete·lines (drop from (now (piece .entry))))) ⌝ }
+    ensures { λ r. ⌜ (r .from ≤ length (now (piece .entry))) × (drop (r .from) (now (piece .entry)) ≡ rest (drop from (now (piece .entry)))) ⌝ }
+    ensures { λ r. ⌜ r .tallies ≡ plus tallies (counts (replies (Complete·lines (drop from (now (piece .entry)))))) ⌝ }
+    ensures { λ _. ⌜ now (out .exit) ≡ put (now (out .entry)) at (answerLines (Complete·lines (drop from (now (piece .entry))))) ⌝ }
+{
+    let mut i = from;
+    let mut place = at;
+    let mut t = tallies;
+    let mut end = line_end(piece, i);
+    while end < piece.len() {
+        let reply = lines::reply_to(&piece[i..end]);
+        place = lines::write_reply(reply, out, place);
+        t = counted(t, reply);
+        i = end + 1;
+        end = line_end(piece, i);
+    }
+    Progress {
+        at: place,
+        from: i,
+        tallies: t,
+    }
+}

@@ -1,0 +1,97 @@
+// Whether the answer lines of a piece have room.
+use crate::MOST_LINES;
+use crate::OVER_LONG;
+use crate::Tail;
+use crate::held::extended;
+use crate::held::reply_to_tail;
+use crate::scan::line_end;
+use crate::scan::line_feeds;
+ghost use mathlib.Core.Path.{_≡_};
+ghost use mathlib.Core.Bool.{true};
+ghost use Prim.Native.Nat.{_+_, _*_, _≤_};
+ghost use lib.Dec.{ltb, leb};
+ghost use lib.ListN.{length, drop};
+ghost use Rattle.batch.specs.Complete.{linesFrom, lines as Complete·lines, feeds};
+ghost use Rattle.batch.specs.Holding.{carried, overLong, Sound};
+ghost use Rattle.batch.specs.Feed.{answerLines, mostLines};
+
+// Whether the lines so far and the line feeds of a piece are more than can be counted. The line feeds
+// are looked for only where the piece has enough bytes for that.
+pub(crate) fn too_many(lines: u32, piece: &[u8]) -> bool
+    ensures { λ r. ⌜ r ≡ ltb mostLines (lines + feeds (now (piece .entry))) ⌝ }
+{
+    let left = (MOST_LINES - lines) as usize;
+    if piece.len() <= left {
+        return false;
+    }
+    line_feeds(piece) > left
+}
+
+// Whether the answer lines of a piece are longer than `room`. They are worked out only where `room`
+// is shorter than any answers to this piece could be.
+pub(crate) fn is_short(tail: Tail, piece: &[u8], room: usize) -> bool
+    requires { ⌜ Sound tail ⌝ }
+    requires { ⌜ feeds (now piece) ≤ mostLines ⌝ }
+    ensures { λ r. ⌜ r ≡ ltb room (length (answerLines (linesFrom (carried tail) (now (piece .entry))))) ⌝ }
+{
+    if has_room(piece, room) {
+        return false;
+    }
+    !fits(tail, piece, room)
+}
+
+// Whether `room` holds the answers to this piece, whatever they are: an answer line is at most six
+// bytes longer than its line. The line feeds are counted only where a line feed at every byte would be
+// too much.
+fn has_room(piece: &[u8], room: usize) -> bool
+    requires { ⌜ feeds (now piece) ≤ mostLines ⌝ }
+    ensures { λ r. ⌜ (r ≡ true → overLong + length (now (piece .entry)) + 5 * feeds (now (piece .entry)) ≤ room) ⌝ }
+{
+    let most = OVER_LONG as usize;
+    if room < most {
+        return false;
+    }
+    if piece.len() <= (room - most) / 6 {
+        return true;
+    }
+    if room - most < piece.len() {
+        return false;
+    }
+    5 * line_feeds(piece) <= room - most - piece.len()
+}
+
+// Whether the answer lines of a piece fit into `room`.
+fn fits(tail: Tail, piece: &[u8], room: usize) -> bool
+    requires { ⌜ Sound tail ⌝ }
+    ensures { λ r. ⌜ r ≡ leb (length (answerLines (linesFrom (carried tail) (now (piece .entry))))) room ⌝ }
+{
+    let end = line_end(piece, 0);
+    if end == piece.len() {
+        return true;
+    }
+    let first = lines::reply_length(reply_to_tail(extended(tail, &piece[..end])));
+    if first > room {
+        return false;
+    }
+    lines_fit(piece, end + 1, room - first)
+}
+
+// Whether the answer lines of the complete lines from `from` on fit into `room`.
+fn lines_fit(piece: &[u8], from: usize, room: usize) -> bool
+    requires { ⌜ from ≤ length (now piece) ⌝ }
+    ensures { λ r. ⌜ r ≡ leb (length (answerLines (Complete·lines (drop from (now (piece .entry)))))) room ⌝ }
+{
+    let mut i = from;
+    let mut left = room;
+    let mut end = line_end(piece, i);
+    while end < piece.len() {
+        let n = lines::reply_length(lines::reply_to(&piece[i..end]));
+        if n > left {
+            return false;
+        }
+        left -= n;
+        i = end + 1;
+        end = line_end(piece, i);
+    }
+    true
+}
