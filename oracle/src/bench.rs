@@ -116,7 +116,7 @@ fn mixed_pairs() -> Vec<Pair> {
 
 // What fade is for: x from -1e-2 to -1e-6, evenly in the logarithm, and y up to 1e5, half of them
 // whole and above 16, half of them fractions. None takes the route of the whole exponents.
-fn fade_pairs() -> Vec<Pair> {
+pub fn fade_pairs(count: usize) -> Vec<Pair> {
     let mut random = Random::new(0);
     let mut pair = |i: usize| {
         let x = -10f64.powf(random.real(-6.0, -2.0)) as f32;
@@ -126,14 +126,14 @@ fn fade_pairs() -> Vec<Pair> {
         }
         [x, y].map(f32::to_bits)
     };
-    (0..PAIRS).map(&mut pair).collect()
+    (0..count).map(&mut pair).collect()
 }
 
 // Prints a line for each function, and for compoundf one for each kind of pairs.
 pub fn bench() {
     bench_parts();
     pair_line("compoundf, all routes in equal shares", &mixed_pairs());
-    pair_line("compoundf, fade's own range", &fade_pairs());
+    pair_line("compoundf, fade's own range", &fade_pairs(PAIRS));
     pair_line("compoundf, slow pairs", &pairs_via(Route::Slow, PAIRS));
     pair_line("compoundf, whole exponents", &pairs_via(Route::Whole, PAIRS));
     pair_line("compoundf, special operands", &pairs_via(Route::Rule, PAIRS));

@@ -58,9 +58,9 @@ impl Pattern for String {
         self == other
     }
 
-    // A line stands for itself, without its line feed.
+    // A line stands for itself, and a long one is cut.
     fn hex(&self) -> String {
-        self.trim_end().to_string()
+        format!("{self:.100}")
     }
 }
 

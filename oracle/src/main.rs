@@ -1,12 +1,14 @@
 // The Rust beside it: compares the exports of our static library with the crate's own functions,
 // value by value. Without an argument in the short form, with `long` in the long one; with
 // `compound` only the answers for pairs. With `bench` it measures both instead, with `vectors` it
-// writes the list of pairs for the replay, with `answers` it answers the pairs that it reads, and
-// with `midpoints` it lists the pairs with a whole exponent that may be misrounded.
+// writes the files that the crates' programs are run with, with `answers` it answers the pairs that
+// it reads, with `midpoints` it lists the pairs with a whole exponent that may be misrounded, and
+// with `lines` and a number it writes batches of so many lines for measuring fade.
 
 #![allow(dead_code)]
 
 mod answers;
+mod batch;
 mod bench;
 mod bits;
 mod checks;
@@ -17,9 +19,12 @@ mod double_double;
 mod draw;
 mod dyadic_float;
 mod edges;
+mod files;
+mod lines;
 mod ours;
 mod random;
 mod rounding;
+mod sample;
 mod told;
 mod values;
 mod vectors;
@@ -51,7 +56,8 @@ fn main() -> ExitCode {
             return ExitCode::SUCCESS;
         }
         ["vectors"] => {
-            vectors::write();
+            files::write(&vectors::files(&vectors::list()));
+            files::write(&sample::files());
             return ExitCode::SUCCESS;
         }
         ["answers"] => {
@@ -62,9 +68,14 @@ fn main() -> ExitCode {
             answers::near_midpoints();
             return ExitCode::SUCCESS;
         }
+        ["lines", count] => {
+            sample::write_timed(count.parse().expect("lines wants a number"));
+            return ExitCode::SUCCESS;
+        }
         _ => {
-            eprintln!("oracle: the arguments are [long] [compound], bench, vectors, answers, midpoints;");
-            eprintln!("  of oracle/run also accuracy every, accuracy [slow] [count] [range]...");
+            eprintln!("oracle: the arguments are [long] [compound], bench, vectors,");
+            eprintln!("  lines [count], accuracy every, accuracy [slow] [count] [range]...;");
+            eprintln!("  of the program itself also answers, midpoints");
             return ExitCode::from(2);
         }
     };
@@ -81,7 +92,22 @@ fn compare(long: bool, parts: bool) -> bool {
             equal &= run(check, long, if long { LONG } else { SHORT }).report(check.0);
         }
     }
-    equal & compare_compound(long)
+    equal &= compare_compound(long);
+    if parts {
+        equal &= compare_batches();
+    }
+    equal
+}
+
+// The checks of the batches: the plain program for them, and their files.
+fn compare_batches() -> bool {
+    let equal = sample::plain_program().report("batch lines, by the plain program");
+    equal & compare_files(&sample::files())
+}
+
+// Each file on the disk beside what would be written now.
+fn compare_files(files: &[files::File]) -> bool {
+    files.iter().fold(true, |equal, file| equal & files::on_disk(file).report(file.0))
 }
 
 // The checks of the answers for pairs.
@@ -96,9 +122,7 @@ fn compare_compound(long: bool) -> bool {
     ] {
         equal &= listed_pairs(pairs).report(name);
     }
-    for (file, lines) in vectors::on_disk(&list) {
-        equal &= lines.report(file);
-    }
+    equal &= compare_files(&vectors::files(&list));
     let drawn = run(DRAWN_PAIRS, long, if long { LONG_PAIRS } else { SHORT });
     equal &= drawn.report(DRAWN_PAIRS.0) & drawn.reaches_all_routes();
     for check in SWEEPS.into_iter().filter(|_| long) {

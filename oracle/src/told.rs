@@ -67,6 +67,14 @@ pub fn rust(pair: Pair) -> Told {
     told
 }
 
+// The same by the retelling alone, which does the work of `f_compoundf` once.
+#[inline(always)]
+pub fn once(pair: Pair) -> Told {
+    let [x, y] = pair.map(f32::from_bits);
+    let (via, r) = retold(x, y);
+    Told::new(via, r)
+}
+
 // The tests of `f_compoundf` in their order, and the private functions that it calls.
 fn retold(x: f32, y: f32) -> (Route, f32) {
     if special_test(x, y).is_some() {

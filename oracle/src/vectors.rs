@@ -3,16 +3,14 @@
 // by midpoints, and what a search finds for every branch that some pair takes (told/trace.rs).
 
 use crate::checks::PAIRS;
-use crate::compare::{Pattern, Tally};
+use crate::compare::Pattern;
 use crate::compound::compoundf::compoundf_log2p1_accurate;
 use crate::draw::{self, Pair, SIGN, T_THRESHOLDS, X_THRESHOLDS, Y_THRESHOLDS};
+use crate::files::File;
 use crate::random::Random;
 use crate::told;
 use crate::told::trace::{trace, Label, REACHED, SLOW_K};
 use std::collections::{HashMap, HashSet};
-
-// Where the files are, from the repository's root.
-const FILES: [&str; 2] = ["crates/replay/stdin", "crates/replay/stdout"];
 
 // How many pairs the search gives each branch, if it finds so many.
 const WANTED: u32 = 2;
@@ -201,37 +199,11 @@ fn two_thirds(r: &mut Random, k: f64) -> (f32, f64) {
     ((k / t * f64::EPSILON) as f32, t)
 }
 
-// The two files' contents.
-fn contents(list: &[Pair]) -> [String; 2] {
+// The two files of the list.
+pub fn files(list: &[Pair]) -> [File; 2] {
     let question = |&[x, y]: &Pair| format!("{x:08x} {y:08x}\n");
     let answer = |&[x, y]: &Pair| format!("{x:08x} {y:08x} {}\n", told::rust([x, y]).hex());
-    [list.iter().map(question).collect(), list.iter().map(answer).collect()]
-}
-
-// Writes the files.
-pub fn write() {
-    std::fs::create_dir_all("crates/replay").expect("no folder for the replay");
-    let list = list();
-    for (file, text) in FILES.into_iter().zip(contents(&list)) {
-        std::fs::write(file, text).expect("a file of the replay was not written");
-    }
-    println!("vectors: {} pairs written", list.len());
-}
-
-// Each file's lines on the disk beside those that would be written now.
-pub fn on_disk(list: &[Pair]) -> [(&'static str, Tally); 2] {
-    let [stdin, stdout] = contents(list);
-    [(FILES[0], lines_on_disk(FILES[0], &stdin)), (FILES[1], lines_on_disk(FILES[1], &stdout))]
-}
-
-// The lines of one file.
-fn lines_on_disk(file: &str, text: &str) -> Tally {
-    let mut tally = Tally::default();
-    let disk = std::fs::read_to_string(file).unwrap_or_default();
-    let [old, new] = [&disk, text].map(|text| text.split_inclusive('\n').collect::<Vec<_>>());
-    for line in 0..old.len().max(new.len()) {
-        let [old, new] = [&old, &new].map(|all| all.get(line).unwrap_or(&"no line").to_string());
-        tally.note([format!("line {}", line + 1)], old, new);
-    }
-    tally
+    let [stdin, stdout]: [String; 2] =
+        [list.iter().map(question).collect(), list.iter().map(answer).collect()];
+    [("crates/replay/stdin", stdin.into()), ("crates/replay/stdout", stdout.into())]
 }

@@ -1,0 +1,18 @@
+-- `held` is proved: a line that is held has at most as many bytes as the tail has places. Assumes nothing.
+use borrow.Author.Needs.{needs}
+use Prim.Native.Nat.{_-_, _≤_}
+use mathlib.Core.Path.{_≡_}
+use lib.ListN.{length}
+use Rattle.cuts.proofs.expected.held.Statement.{statement}
+use Rattle.cuts.proofs.expected.held.Tie as tie
+
+abbrev Inv-loop : tie.InvT-loop
+Inv-loop line bytes₀ count₀ i₀ bytes count i = (length line ≤ 30) × (i ≤ length line) × (length bytes ≡ 30)
+
+abbrev μ-loop : tie.MeasureT-loop
+μ-loop line bytes₀ count₀ i₀ bytes count i = length line - i
+
+pub held-spec : {M : Type 1} → statement M
+held-spec =
+    tie.close (tie.spec Inv-loop μ-loop (λ c. search needs) (λ c. search needs) (λ c. search needs) (λ c. search needs) (λ c κs. search needs)
+    (λ c. search needs) (λ c. search needs) (λ c. search needs) (λ c. search needs))

@@ -1,0 +1,171 @@
+// The batch program: answers the lines of standard input as they come, and prints the totals at its
+// end. It reads pieces of at most 8,192 bytes and prints the answers to each with one write, so it
+// takes no more memory for a longer input. Where it cannot read or write, it says so on standard
+// error and prints no totals.
+use batch::Closed;
+use batch::State;
+use batch::Verdict;
+use libc::EINTR;
+use libc::STDERR_FILENO;
+use libc::STDIN_FILENO;
+use libc::STDOUT_FILENO;
+ghost use mathlib.Core.Path.{_≡_};
+ghost use Prim.Native.Nat.{ℕ, _+_, _≤_};
+ghost use lib.ListN.{length};
+ghost use Rattle.io.specs.Counts.{Counts};
+
+// The most bytes that are read at once.
+const PIECE: usize = 8192;
+
+// Room for the answers to any piece: they have at most as many bytes as the tail and the piece, and
+// five more for each line feed (`answers-length` of crates/batch/proofs/Replied.antt).
+const ANSWERS: usize = 31 + PIECE + 5 * PIECE;
+
+// The most reads: no run comes to so many.
+const READS: u64 = 0xffff_ffff_ffff_ffff;
+
+// Room for the totals: 48 bytes of words and eight numbers of at most ten digits.
+const TOTALS: usize = 48 + 8 * 10;
+
+// What comes after a read: the next, or the totals with the number of the end, 0 if there is none,
+// or nothing, after a failure that has been told.
+enum Next {
+    Read,
+    Totals(u32),
+    Nothing,
+}
+
+// The state after a piece, and what comes next.
+struct Turn {
+    state: State,
+    next: Next,
+}
+
+// Tells of a failure of our own, which no input brings about.
+fn fault() -> Next {
+    io::write_all(STDERR_FILENO, b"fade: internal failure; no totals\n");
+    Next::Nothing
+}
+
+// After a read that failed: one that a signal interrupted is tried again.
+fn not_read() -> Next {
+    if os::errno() == EINTR {
+        return Next::Read;
+    }
+    os::fail(b"fade: standard input cannot be read; no totals");
+    Next::Nothing
+}
+
+// Writes text to standard output; `next` comes after it, if it could be written.
+fn print(text: &[u8], next: Next) -> Next {
+    if io::write_all(STDOUT_FILENO, text) {
+        return next;
+    }
+    os::fail(b"fade: standard output cannot be written; no totals");
+    Next::Nothing
+}
+
+// Prints the answers to a piece that was accepted.
+fn print_answers(verdict: Verdict, out: &[u8]) -> Next
+    requires { ⌜ ((n : ℕ) → verdict ≡ Verdict.Accepted n → n ≤ length (now out)) ⌝ }
+{
+    match verdict {
+        Verdict::Accepted(n) => print(&out[..n], Next::Read),
+        Verdict::TooManyLines => Next::Totals(6),
+        Verdict::Broken => fault(),
+        Verdict::NoRoom => fault(),
+    }
+}
+
+// At the end of the input.
+fn at_end(state: State) -> Next {
+    let closed = batch::close(state);
+    match closed {
+        Closed::Whole => Next::Totals(0),
+        Closed::Unfinished => Next::Totals(8),
+        Closed::BrokenState => fault(),
+    }
+}
+
+// Reads a piece and answers it.
+fn read_piece(state: State, piece: &mut [u8], out: &mut [u8]) -> Turn {
+    let got = libc::read(STDIN_FILENO, piece);
+    if got < 0 {
+        let next = not_read();
+        return Turn { state, next };
+    }
+    if got == 0 {
+        let next = at_end(state);
+        return Turn { state, next };
+    }
+    let n = io::count(got, piece);
+    let fed = batch::feed(state, &piece[..n], out);
+    let after = fed.state;
+    let verdict = fed.verdict;
+    let next = print_answers(verdict, out);
+    Turn { state: after, next }
+}
+
+// Reads and answers up to the end of the input.
+fn answer_input(piece: &mut [u8], out: &mut [u8]) -> Turn {
+    let mut state = batch::fresh();
+    for _ in 0..READS {
+        let turn = read_piece(state, piece, out);
+        let next = turn.next;
+        let Next::Read = next else {
+            return turn;
+        };
+        state = turn.state;
+    }
+    let next = fault();
+    Turn { state, next }
+}
+
+// Puts text and a number after it at the place `at`, and answers the place after them.
+fn put_total(text: &[u8], n: u32, out: &mut [u8; TOTALS], at: usize) -> usize
+    requires { ⌜ at + length (now text) + 10 ≤ 128 ⌝ }
+    ensures { λ r. ⌜ r ≤ at + length (now (text .entry)) + 10 ⌝ }
+{
+    let mut digits = [0u8; 20];
+    let k = io::decimal(n as u64, &mut digits);
+    let place = lines::put_bytes(text, out, at);
+    lines::put_bytes(&digits[..k], out, place)
+}
+
+// Puts the line feed of the totals, and the line of the end's number if there is one, at the place
+// `at`, and answers the place after them.
+fn put_end(end: u32, out: &mut [u8; TOTALS], at: usize) -> usize
+    requires { ⌜ at + 16 ≤ 128 ⌝ }
+    ensures { λ r. ⌜ Counts r (now (out .exit)) ⌝ }
+{
+    if end == 0 {
+        return lines::put_bytes(b"\n", out, at);
+    }
+    let place = put_total(b"\nend=", end, out, at);
+    lines::put_bytes(b"\n", out, place)
+}
+
+// Prints the totals, and the end's number if there is one.
+fn print_totals(state: State, end: u32) {
+    let t = state.tallies;
+    let mut out = [0u8; TOTALS];
+    let mut at = put_total(b"lines=", state.lines, &mut out, 0);
+    at = put_total(b" rule=", t.rule, &mut out, at);
+    at = put_total(b" whole=", t.whole, &mut out, at);
+    at = put_total(b" edge=", t.edge, &mut out, at);
+    at = put_total(b" fast=", t.fast, &mut out, at);
+    at = put_total(b" slow=", t.slow, &mut out, at);
+    at = put_total(b" bad=", t.bad, &mut out, at);
+    at = put_end(end, &mut out, at);
+    print(&out[..at], Next::Nothing);
+}
+
+fn main() {
+    let mut piece = [0u8; PIECE];
+    let mut out = [0u8; ANSWERS];
+    let turn = answer_input(&mut piece, &mut out);
+    let next = turn.next;
+    if let Next::Totals(end) = next {
+        print_totals(turn.state, end);
+    }
+}
