@@ -1,21 +1,18 @@
 // Digits: a byte's value, and the digits of a number put at a place.
 ghost use mathlib.Core.Path.{_≡_};
 ghost use Prim.Native.Nat.{_+_, _≤_, _<_};
-ghost use mathlib.Core.Bool.{true, cond};
+ghost use mathlib.Core.Bool.{true};
 ghost use lib.ListN.{length};
 ghost use Rattle.lines.specs.Bytes.{put};
 ghost use Rattle.lines.specs.Digits.{isHex, digitValue};
 ghost use Rattle.lines.specs.Digits.{glyph as Digits·glyph, digits as Digits·digits, places as Digits·places};
 
-// 0 for a hexadecimal digit, 1 for another byte: to be added up without a branch.
-pub(crate) fn not_hex(b: u8) -> u32
-    ensures { λ r. ⌜ r ≡ cond (isHex b) 0 1 ⌝ }
+// Whether a byte is a hexadecimal digit. The tests are joined without a branch, so that eight bytes
+// can be tested at once.
+pub(crate) fn is_hex(b: u8) -> bool
+    ensures { λ r. ⌜ r ≡ isHex b ⌝ }
 {
-    match b {
-        48..=57 => 0,
-        97..=102 => 0,
-        _ => 1,
-    }
+    (48 <= b) & (b <= 57) | (97 <= b) & (b <= 102)
 }
 
 // The value of a hexadecimal digit: the low half of its code, and 9 more for a letter.
@@ -23,7 +20,8 @@ pub(crate) fn hex_value(b: u8) -> u32
     requires { ⌜ isHex b ≡ true ⌝ }
     ensures { λ r. ⌜ r ≡ digitValue b ⌝ }
 {
-    (b % 16 + b / 64 * 9) as u32
+    let code = b as u32;
+    code % 16 + code / 64 * 9
 }
 
 // The ASCII code of a digit.

@@ -3,7 +3,7 @@ use crate::LARGEST_ID;
 use crate::LONGEST;
 use crate::Line;
 use crate::digits::hex_value;
-use crate::digits::not_hex;
+use crate::digits::is_hex;
 ghost use mathlib.Core.Path.{_≡_};
 ghost use mathlib.Core.Bool.{true};
 ghost use Prim.Native.Nat.{_+_, _≤_, _<_};
@@ -104,11 +104,11 @@ fn all_hex(line: &[u8], from: usize) -> bool
     requires { ⌜ from + 8 ≤ length (now line) ⌝ }
     ensures { λ r. ⌜ r ≡ all isHex (eightAt from (now (line .entry))) ⌝ }
 {
-    let mut others = 0;
+    let mut hex = true;
     for i in 0..8usize {
-        others += not_hex(line[from + i]);
+        hex = hex & is_hex(line[from + i]);
     }
-    others == 0
+    hex
 }
 
 // The number that the eight hexadecimal digits at a place say.

@@ -37,4 +37,4 @@ by-tests b e = go (leb 48 b) (leb b 57) (leb 97 b) (leb b 102) refl refl refl re
     go false q false s e f g h t = absurd (no t)
 
 pub hex-value-spec : {M : Type 1} → statement M
-hex-value-spec = tie.close (tie.spec (λ c. search needs) (λ c. search needs) (λ c. search needs) (λ c. by-tests _ (c .pre)))
+hex-value-spec = tie.close (tie.spec (λ c. search needs) (λ c. search needs) (λ c. by-tests _ (c .pre)))
