@@ -12,7 +12,7 @@ ghost use Rattle.lines.specs.Digits.{glyph as Digits·glyph, digits as D
 pub(crate) fn is_hex(b: u8) -> bool
     ensures { λ r. ⌜ r ≡ isHex b ⌝ }
 {
-    (48 <= b) & (b <= 57) | (97 <= b) & (b <= 102)
+    (b'0' <= b) & (b <= b'9') | (b'a' <= b) & (b <= b'f')
 }
 
 // The value of a hexadecimal digit: the low half of its code, and 9 more for a letter.
@@ -29,7 +29,11 @@ pub(crate) fn glyph(d: u32) -> u8
     requires { ⌜ d < 16 ⌝ }
     ensures { λ r. ⌜ r ≡ Digits·glyph d ⌝ }
 {
-    if d < 10 { 48 + d as u8 } else { 87 + d as u8 }
+    if d < 10 {
+        b'0' + d as u8
+    } else {
+        b'a' - 10 + d as u8
+    }
 }
 
 // How many decimal digits n has.

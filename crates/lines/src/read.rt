@@ -41,13 +41,13 @@ fn read_decimal(line: &[u8], from: usize) -> Field
     let mut at = from;
     while at < line.len() {
         let b = line[at];
-        if b < 48 {
+        if b < b'0' {
             return Field::Read(n, at);
         }
-        if 57 < b {
+        if b'9' < b {
             return Field::Read(n, at);
         }
-        n = n * 10 + (b - 48) as u32;
+        n = n * 10 + (b - b'0') as u32;
         if LARGEST_ID < n {
             return Field::Missing;
         }
@@ -68,7 +68,7 @@ fn read_d(line: &[u8], from: usize) -> Field
         return Field::Missing;
     }
     if end - from > 1 {
-        if line[from] == 48 {
+        if line[from] == b'0' {
             return Field::Missing;
         }
     }
@@ -79,19 +79,19 @@ fn read_d(line: &[u8], from: usize) -> Field
 fn read_id(line: &[u8]) -> Field
     ensures { λ r. ⌜ r ≡ idOf (now (line .entry)) ⌝ }
 {
-    if !stands(line, 0, 105) {
+    if !stands(line, 0, b'i') {
         return Field::Missing;
     }
-    if !stands(line, 1, 100) {
+    if !stands(line, 1, b'd') {
         return Field::Missing;
     }
-    if !stands(line, 2, 61) {
+    if !stands(line, 2, b'=') {
         return Field::Missing;
     }
     let Field::Read(d, end) = read_d(line, 3) else {
         return Field::Missing;
     };
-    if stands(line, end, 32) {
+    if stands(line, end, b' ') {
         Field::Read(d, end + 1)
     } else {
         Field::Missing
@@ -146,7 +146,7 @@ fn read_field(line: &[u8], at: usize, key: u8) -> Field
     if !stands(line, at, key) {
         return Field::Missing;
     }
-    if !stands(line, at + 1, 61) {
+    if !stands(line, at + 1, b'=') {
         return Field::Missing;
     }
     read_h(line, at + 2)
@@ -175,13 +175,13 @@ pub fn read_line(line: &[u8]) -> Line
     let Field::Read(id, from_x) = read_id(line) else {
         return Line::NoId;
     };
-    let Field::Read(x, after_x) = read_hex(line, from_x, 120) else {
+    let Field::Read(x, after_x) = read_hex(line, from_x, b'x') else {
         return Line::NoX;
     };
-    if !stands(line, after_x, 32) {
+    if !stands(line, after_x, b' ') {
         return Line::NoX;
     }
-    let Field::Read(y, end) = read_hex(line, after_x + 1, 121) else {
+    let Field::Read(y, end) = read_hex(line, after_x + 1, b'y') else {
         return Line::NoY;
     };
     if end != line.len() {
