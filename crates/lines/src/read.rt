@@ -32,28 +32,29 @@ fn stands(line: &[u8], at: usize, b: u8) -> bool
     }
 }
 
-// The number that the decimal digits at a place say, if it is an id.
+// The number that the decimal digits at a place say, if it is an id. It is added up in a u64, which
+// holds any u32 and a digit more.
 fn read_decimal(line: &[u8], from: usize) -> Field
     requires { ⌜ from ≤ length (now line) ⌝ }
     ensures { λ r. ⌜ r ≡ numberAt from (now (line .entry)) ⌝ }
 {
-    let mut n = 0;
+    let mut n: u64 = 0;
     let mut at = from;
     while at < line.len() {
         let b = line[at];
         if b < b'0' {
-            return Field::Read(n, at);
+            return Field::Read(n as u32, at);
         }
         if b'9' < b {
-            return Field::Read(n, at);
+            return Field::Read(n as u32, at);
         }
-        n = n * 10 + (b - b'0') as u32;
-        if LARGEST_ID < n {
+        n = n * 10 + (b - b'0') as u64;
+        if n > LARGEST_ID as u64 {
             return Field::Missing;
         }
         at += 1;
     }
-    Field::Read(n, at)
+    Field::Read(n as u32, at)
 }
 
 // The D at a place.

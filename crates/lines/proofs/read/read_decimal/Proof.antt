@@ -119,8 +119,11 @@ read-decimal-spec =
     μ-loop
     loop-holds
     (λ c. omega arith)
+    (λ c. omega arith)
     returns
+    (λ c. omega arith)
     returns-2
+    (λ c. omega arith)
     (λ c. omega arith)
     (λ c. omega arith)
     (λ c. omega arith)
@@ -128,4 +131,5 @@ read-decimal-spec =
     (λ c. omega arith)
     (λ c. omega arith)
     loop-again
+    (λ c. omega arith)
     returns-4)
