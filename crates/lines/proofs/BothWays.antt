@@ -1,20 +1,20 @@
 -- The format read both ways: every line of it is accepted with its values, and nothing else is. Assumes nothing.
-use borrow.Author.Tests.{ltb-false, eqb-true, le-ltb, eq-eqb}
+use borrow.Author.Tests.{eqb-true, le-ltb, eq-eqb}
 use mathlib.Core.Path.{_≡_, refl, sym, _∙_, ap}
 use mathlib.Core.Bool.{Bool, true, false, not, cond, _&&_, true≢false}
 use mathlib.Core.List.{List, [], _∷_, _++_, append-assoc, append-nil}
 use Prim.Native.Nat.{ℕ, _+_, _≤_, _<_, _^_}
 use native.Mathlib.Omega.{arith}
 use native.Mathlib.Numerals.{add-one}
-use lib.Dec.{eqb, ltb, lit<}
-use lib.ListN.{length, take, drop, getD, length-append, length-drop, take-append-drop, drop-of-length-le}
+use lib.Dec.{eqb, ltb, lit<, lit≤}
+use lib.ListN.{length, take, drop, getD, length-append, take-append-drop, drop-of-length-le}
 use lib.Seq.{take-at, drop-at, getD-at, getD-drop, drop-drop, drop-cons, drop-append-add}
 use Rattle.lines.specs.Bytes.{begins, all, leading}
-use Rattle.lines.specs.Digits.{decimal, hex, isDecimal, isHex, value}
-use Rattle.lines.specs.Format.{longest, idKey, xKey, yKey, space, lineOf, InRange, Format}
+use Rattle.lines.specs.Digits.{places, decimal, hex, isDecimal, isHex, value}
+use Rattle.lines.specs.Format.{longest, largestId, idKey, xKey, yKey, space, lineOf, InRange, Format}
 use Rattle.lines.specs.Format.{idDigits, isD, hasId, afterId, hexDigits, hasHex, hasX, afterX, hasY, readLine}
 use Rattle.lines.specs.declared.Line.the-variants.{Pair, TooLong, NoId, NoX, NoY}
-use Rattle.lines.proofs.Numerals.{both, sixteen, length-decimal, length-hex, all-decimal, all-hex, places-at-most, value-below}
+use Rattle.lines.proofs.Numerals.{both, sixteen, length-decimal, length-hex, all-decimal, all-hex, places-monotone, value-below}
 use Rattle.lines.proofs.Numerals.{is-d, decimal-is-d, decimal-value, value-decimal, value-hex, hex-value}
 use Rattle.lines.proofs.Reading.{inside}
 
@@ -54,6 +54,11 @@ fromId d x y = 105 ∷ 100 ∷ 61 ∷ (decimal d ++ (space ∷ fromX x y))
 line-parts : (d x y : ℕ) → lineOf d x y ≡ fromId d x y
 unfolding lineOf
 line-parts d x y = simp (append-assoc, append-nil)
+
+-- a line has 25 bytes beside its id, and the longest has room for the largest id
+longest-id : 25 + places 9 largestId ≤ longest
+unfolding places
+longest-id = lit≤ tt
 
 module _ (d x y : ℕ) (r : InRange d x y) where
   id-digits : idDigits (fromId d x y) ≡ decimal d
@@ -104,7 +109,8 @@ module _ (d x y : ℕ) (r : InRange d x y) where
         length-hex x,
         length-hex y,
         length-decimal d,
-        places-at-most 4 9 d (omega (arith, r .id-range)),
+        places-monotone 9 d largestId (r .id-range),
+        longest-id,
       )
     where
       append-length : (l : List ℕ) → length (l ++ []) ≡ length l
@@ -260,20 +266,8 @@ module _ (l : List ℕ) (d x y : ℕ) (a : Accepted l d x y) where
   y-long : length (afterX (afterId l)) ≡ 10
   y-long = eqb-true (length (afterX (afterId l))) 10 (y-tests .1)
 
-  few : length (idDigits l) ≤ 10
-  unfolding afterX
-  few =
-      omega (
-        arith,
-        ltb-false longest (length l) (a .short),
-        ap length (id-shape l (a .id)),
-        length-append (idDigits l) (space ∷ afterId l),
-        y-long,
-        length-drop 11 (afterId l),
-      )
-
   d-decimal : decimal d ≡ idDigits l
-  d-decimal = rw (sym (a .d-is)) (decimal-value (idDigits l) (is-d (idDigits l) (id-front l (a .id) .1)) (id-decimal l (a .id)) few)
+  d-decimal = rw (sym (a .d-is)) (decimal-value (idDigits l) (is-d (idDigits l) (id-front l (a .id) .1)) (id-decimal l (a .id)))
 
   y-end : afterX (afterId l) ≡ fromY y
   y-end =

@@ -10,8 +10,8 @@ use borrow.Author.Tests.{lt-ltb}
 use lib.ListN.{length, length-append}
 use lib.Ieee.{binary32, toBits}
 use Rattle.compound.specs.Answer.{Via, rule, whole, edge, fast, slow, Outcome, word}
-use Rattle.lines.specs.Digits.{digits, places, decimal, hex}
-use Rattle.lines.specs.Format.{lineOf, longest, readLine, number, Format}
+use Rattle.lines.specs.Digits.{places}
+use Rattle.lines.specs.Format.{lineOf, longest, readLine, number}
 use Rattle.lines.proofs.Numerals.{length-decimal, length-hex}
 use Rattle.lines.proofs.BothWays.{both-ways}
 use Rattle.lines.specs.Reply.{answered, bad, ending, answerTo, replyTo, written}

@@ -6,10 +6,10 @@ use mathlib.Core.Logic.{_⊎_, inl, inr, ⊎-elim}
 use mathlib.Core.List.{List, [], _∷_, _++_}
 use Prim.Native.Nat.{ℕ, zero, suc, _+_, _-_, _*_, _/_, _%_, _^_, _≤_, _<_}
 use native.Mathlib.Omega.{arith}
-use native.Mathlib.Nat.{le-refl, le-trans, lt-of-lt-of-le, pow-zero, pow-suc, add-zero, add-mul, mul-le-mul-right}
+use native.Mathlib.Nat.{le-refl, le-trans, lt-of-lt-of-le, lt-of-not-le, pow-zero, pow-suc, pow-le-pow-right, add-zero, add-mul, mul-le-mul-right}
 use native.Mathlib.Nat.{mod-lt, mod-eq-of-lt, div-eq-of-lt, div-lt-iff-lt-mul, div-add-mod', mul-add-div-right, mul-add-mod-self-right}
 use native.Mathlib.Numerals.{add-one, add-one-le}
-use lib.Dec.{eqb, ltb, leb, lit<}
+use lib.Dec.{eqb, ltb, leb, lit<, lit≤}
 use lib.ListN.{length, getD, take, length-append, List·getD-append}
 use lib.Seq.{length-take-le, take-all, take-suc, getD-take}
 use Rattle.lines.specs.Bytes.{all}
@@ -225,7 +225,7 @@ module _ {base : ℕ} {test : ℕ → Bool} (B : Base base test) where
       small : {d : ℕ} → d < base → base ≤ 16 → d < 16
       small p q = omega arith
 
--- how many decimal digits a number has: at least one, enough for it, and no more than it needs
+-- how many decimal digits a number has: at least one, and enough for it
 places-positive : (k n : ℕ) → 0 < places k n
 unfolding places
 places-positive zero n = lit< tt
@@ -247,15 +247,34 @@ below-places (suc k) n h = go (ltb n 10) refl (below-places k (n / 10) (tenth (s
     go true e i = ltb-true n 10 e
     go false e i = rw (add-one (places k (n / 10)), pow-suc 10 (places k (n / 10))) (div-lt-iff-lt-mul (lit< tt) .0 i)
 
-pub places-at-most : (m k n : ℕ) → n < 10 ^ suc m → places k n ≤ suc m
+-- a smaller number has no more of them
+pub places-monotone : (k m n : ℕ) → m ≤ n → places k m ≤ places k n
 unfolding places
-places-at-most m zero n h = omega arith
-places-at-most zero (suc k) n h = rw (lt-ltb n 10 h) (omega arith)
-places-at-most (suc m) (suc k) n h = go (ltb n 10) (places-at-most m k (n / 10) (tenth (suc m) h))
+places-monotone zero m n h = le-refl 1
+places-monotone (suc k) m n h = go (ltb m 10) refl (places-monotone k (m / 10) (n / 10) (omega arith))
   where
-    go : (t : Bool) → places k (n / 10) ≤ suc m → cond t 1 (places k (n / 10) + 1) ≤ suc (suc m)
-    go true p = omega arith
-    go false p = omega arith
+    go : (t : Bool) → ltb m 10 ≡ t → places k (m / 10) ≤ places k (n / 10) → cond t 1 (places k (m / 10) + 1) ≤ places (suc k) n
+    go true e i = places-positive (suc k) n
+    go false e i = rw (le-ltb n 10 (le-trans (ltb-false m 10 e) h)) (omega arith)
+
+-- below ten there is one, from ten on one more than in a tenth, and j + 2 from 10^(j + 1) on and below 10^(j + 2)
+pub one-place : (k n : ℕ) → n < 10 → places k n ≡ 1
+unfolding places
+one-place zero n h = refl
+one-place (suc k) n h = simp (lt-ltb n 10 h)
+
+more-places : (k n : ℕ) → 10 ≤ n → places (suc k) n ≡ places k (n / 10) + 1
+unfolding places
+more-places k n h = simp (le-ltb n 10 h)
+
+pub places-of : (k j n : ℕ) → j < k → 10 ^ suc j ≤ n → n < 10 ^ suc (suc j) → places k n ≡ j + 2
+places-of zero j n hj h g = absurd (omega arith)
+places-of (suc k) zero n hj h g = more-places k n h ∙ ap (λ (m : ℕ). m + 1) (one-place k (n / 10) (omega arith))
+places-of (suc k) (suc j) n hj h g =
+    let low : 10 ^ suc j * 10 ≤ n = rw pow-suc at h in
+    let high : n < 10 ^ suc (suc j) * 10 = rw pow-suc at g in
+    let two : 10 ≤ n = le-trans (pow-le-pow-right (lit≤ tt) {i = 1} {j = suc (suc j)} (omega arith)) h in
+    more-places k n two ∙ ap (λ (m : ℕ). m + 1) (places-of k j (n / 10) (omega arith) (omega arith) (omega arith)) ∙ omega arith
 
 -- the first of them is no zero, unless the number is 0
 one-digit : (n : ℕ) → 0 < n → n < 10 → glyph (n % 10) ≡ 48 → ⊥
@@ -302,27 +321,13 @@ above-zero (b ∷ ds) h a f =
     first : Between 48 b 57 → digitValue b ≡ b - 48 → 0 < 0 * 10 + digitValue b
     first t e = omega (arith, t .from, e, f)
 
--- and the number has as many digits as they are
-places-value : (k m : ℕ) (ds : List ℕ) → length ds ≡ suc m → m ≤ k → all isDecimal ds ≡ true → (m ≡ 0) ⊎ (getD ds 0 0 ≡ 48 → ⊥)
-    → places k (value 10 ds) ≡ suc m
-unfolding places
-places-value zero m ds h k a f = omega arith
-places-value (suc k) zero ds h j a f = rw (lt-ltb (value 10 ds) 10 (value-below ten 1 ds h a)) refl
-places-value (suc k) (suc m) ds h j a (inl z) = absurd (never z)
-  where
-    never : suc m ≡ 0 → ⊥
-    never k = omega arith
-places-value (suc k) (suc m) ds h j a (inr f) =
-    let e = ended isDecimal ds (suc m) h a in
-    let first : getD (take (suc m) ds) 0 0 ≡ 48 → ⊥ = λ z. f (sym (getD-take (suc m) ds 0 0 (omega arith)) ∙ z) in
-    let some : 0 < value 10 (take (suc m) ds) = above-zero (take (suc m) ds) (omega (arith, e .long)) (e .front) first in
-    rw (
-      le-ltb (value 10 ds) 10 (omega (arith, value-ended ten e, some)),
-      value-ended ten e,
-      quotient ten (value 10 (take (suc m) ds)) (ten .bound (getD ds (suc m) 0) (e .last)),
-      places-value k m (take (suc m) ds) (e .long) (omega arith) (e .front) (inr first),
-    )
-    (add-one (suc m))
+-- and k + 1 of them a number from 10^k on
+least : (k : ℕ) (ds : List ℕ) → length ds ≡ suc k → all isDecimal ds ≡ true → (getD ds 0 0 ≡ 48 → ⊥) → 10 ^ k ≤ value 10 ds
+least zero ds h a f = above-zero ds (omega arith) a f
+least (suc k) ds h a f =
+    let e = ended isDecimal ds (suc k) h a in
+    let first : getD (take (suc k) ds) 0 0 ≡ 48 → ⊥ = λ z. f (sym (getD-take (suc k) ds 0 0 (omega arith)) ∙ z) in
+    rw (value-ended ten e, pow-suc 10 k) (omega (arith, least k (take (suc k) ds) (e .long) (e .front) first))
 
 -- digits that are a D, and what these are
 pub record D (ds : List ℕ) : Type 0 where
@@ -381,16 +386,20 @@ decimal-is-d d h =
     go true e = inl (length-decimal d ∙ rw e refl)
     go false e = inr (no-zero-first 9 d (omega (arith, ltb-false d 10 e)) (omega arith))
 
--- and a D of at most ten digits is the decimal of its value
-pub decimal-value : (ds : List ℕ) → D ds → all isDecimal ds ≡ true → length ds ≤ 10 → decimal (value 10 ds) ≡ ds
+-- and a D is the decimal of its value
+pub decimal-value : (ds : List ℕ) → D ds → all isDecimal ds ≡ true → decimal (value 10 ds) ≡ ds
 unfolding decimal
-decimal-value ds d a h = rw (many) (digits-value ten (length ds) ds refl a)
+decimal-value ds d a = rw (many (length ds - 1) (omega (arith, d .some))) (digits-value ten (length ds) ds refl a)
   where
-    lead : (length ds - 1 ≡ 0) ⊎ (getD ds 0 0 ≡ 48 → ⊥)
-    lead = ⊎-elim (λ e. inl (omega arith)) (λ f. inr f) (d .lead)
+    -- an id has ten digits at most
+    few : (k : ℕ) → 10 ^ k ≤ largestId → k < 10
+    few k h = lt-of-not-le (λ e. omega (arith, pow-le-pow-right {n = 10} (lit< tt) e))
 
-    many : places 9 (value 10 ds) ≡ length ds
-    many = places-value 9 (length ds - 1) ds (omega (arith, d .some)) (omega arith) a lead ∙ omega (arith, d .some)
+    many : (k : ℕ) → length ds ≡ suc k → places 9 (value 10 ds) ≡ length ds
+    many zero h = one-place 9 (value 10 ds) (value-below ten 1 ds h a) ∙ sym h
+    many (suc k) h =
+        let low = least (suc k) ds h a (⊎-elim (λ e. absurd (omega arith)) (λ f. f) (d .lead)) in
+        places-of 9 k (value 10 ds) (omega (arith, few (suc k) (le-trans low (d .small)))) low (value-below ten (suc (suc k)) ds h a) ∙ omega arith
 
 -- a pattern is the value of its hexadecimal digits, and eight of these are a pattern's
 pub value-hex : (n : ℕ) → n < 2 ^ 32 → value 16 (hex n) ≡ n

@@ -1,34 +1,10 @@
 -- `lines::digits::places` meets its contract: n has j + 1 places when it is from 10^j on and below 10^(j + 1). Assumes nothing.
-use mathlib.Core.Path.{_≡_, refl, sym, ap, _∙_}
-use Prim.Native.Nat.{ℕ, zero, suc, _+_, _*_, _/_, _^_, _≤_, _<_}
-use native.Mathlib.Nat.{pow-suc, pow-le-pow-right, le-trans}
+use mathlib.Core.Path.{sym}
 use native.Mathlib.Omega.{arith}
-use borrow.Author.Tests.{lt-ltb, le-ltb}
 use lib.Dec.{lit≤}
-use Rattle.lines.specs.Digits.{places}
+use Rattle.lines.proofs.Numerals.{one-place, places-of}
 use Rattle.lines.proofs.digits.places.Statement.{statement}
 use Rattle.lines.proofs.digits.places.Tie as tie
-
--- below ten there is one place
-one-place : (k n : ℕ) → n < 10 → places k n ≡ 1
-unfolding places
-one-place zero n h = refl
-one-place (suc k) n h = simp (lt-ltb n 10 h)
-
--- from ten on there is one more than in a tenth
-more-places : (k n : ℕ) → 10 ≤ n → places (suc k) n ≡ places k (n / 10) + 1
-unfolding places
-more-places k n h = simp (le-ltb n 10 h)
-
--- from 10^(j + 1) on and below 10^(j + 2)
-places-of : (k j n : ℕ) → j < k → 10 ^ suc j ≤ n → n < 10 ^ suc (suc j) → places k n ≡ j + 2
-places-of zero j n hj h g = absurd (omega arith)
-places-of (suc k) zero n hj h g = more-places k n h ∙ ap (λ (m : ℕ). m + 1) (one-place k (n / 10) (omega arith))
-places-of (suc k) (suc j) n hj h g =
-    let least : 10 ^ suc j * 10 ≤ n = rw pow-suc at h in
-    let most : n < 10 ^ suc (suc j) * 10 = rw pow-suc at g in
-    let ten : 10 ≤ n = le-trans (pow-le-pow-right (lit≤ tt) {i = 1} {j = suc (suc j)} (omega arith)) h in
-    more-places k n ten ∙ ap (λ (m : ℕ). m + 1) (places-of k j (n / 10) (omega arith) (omega arith) (omega arith)) ∙ omega arith
 
 returns : tie.Need-returns
 returns c = sym (one-place 9 (c .before .args .n) (c .if1 .taken))

@@ -4,7 +4,7 @@ use mathlib.Core.List.{List, [], _∷_, _++_}
 use Prim.Native.Nat.{ℕ}
 use denote.Ref.{now}
 use Rattle.lines.specs.Digits.{decimal}
-use Rattle.lines.specs.Reply.{bad, written}
+use Rattle.lines.specs.Reply.{written}
 use Rattle.lines.proofs.Wrote.{Wrote, first-part, room, then}
 use Rattle.lines.proofs.write.put_bad.Statement.{statement}
 use Rattle.lines.proofs.write.put_bad.Tie as tie
