@@ -4,6 +4,7 @@ use mathlib.Core.Path.{_≡_, refl, sym, _∙_, ap}
 use mathlib.Core.Bool.{Bool, true, false, not, cond, _&&_, true≢false}
 use mathlib.Core.List.{List, [], _∷_, _++_, append-assoc, append-nil}
 use Prim.Native.Nat.{ℕ, _+_, _≤_, _<_, _^_}
+use native.Mathlib.Nat.{add-assoc}
 use native.Mathlib.Omega.{arith}
 use native.Mathlib.Numerals.{add-one}
 use lib.Dec.{eqb, ltb, lit<, lit≤}
@@ -30,7 +31,7 @@ leading-all test (b ∷ ds) c rest a h =
 
 -- a field of a key and a pattern: it is one, with the pattern's digits, and ends after ten bytes
 module _ (key n : ℕ) (rest : List ℕ) where
-  h-digits : hexDigits (key ∷ 61 ∷ (hex n ++ rest)) ≡ hex n
+  h-digits : hexDigits (key ∷ 61 ∷ []) (key ∷ 61 ∷ (hex n ++ rest)) ≡ hex n
   unfolding hexDigits
   h-digits = take-at (hex n) rest 8 (length-hex n)
 
@@ -75,11 +76,8 @@ module _ (d x y : ℕ) (r : InRange d x y) where
   after-id : afterId (fromId d x y) ≡ fromX x y
   unfolding afterId
   after-id =
-      rw (id-digits, next (length (decimal d)))
+      rw (id-digits, add-assoc 3 (length (decimal d)) 1)
       (sym (drop-drop (length (decimal d) + 1) 3 (fromId d x y)) ∙ drop-append-add (decimal d) (space ∷ fromX x y) 1)
-    where
-      next : (k : ℕ) → 4 + k ≡ 3 + (k + 1)
-      next k = omega arith
 
   has-x : hasX (fromX x y) ≡ true
   unfolding hasX
@@ -174,27 +172,27 @@ spaced l at h = drop-cons l at 0 (inside l at space (lit< tt) h) ∙ rw (eqb-tru
 
 -- a field of a key and H: the pattern, and what follows
 module _ (key : ℕ) (l : List ℕ) (h : hasHex (key ∷ 61 ∷ []) l ≡ true) where
-  h-tests : ((begins (key ∷ 61 ∷ []) l && eqb (length (hexDigits l)) 8) ≡ true) × (all isHex (hexDigits l) ≡ true)
+  h-tests : ((begins (key ∷ 61 ∷ []) l && eqb (length (hexDigits (key ∷ 61 ∷ []) l)) 8) ≡ true) × (all isHex (hexDigits (key ∷ 61 ∷ []) l) ≡ true)
   unfolding hasHex
   h-tests = both _ _ h
 
-  h-front : (begins (key ∷ 61 ∷ []) l ≡ true) × (eqb (length (hexDigits l)) 8 ≡ true)
+  h-front : (begins (key ∷ 61 ∷ []) l ≡ true) × (eqb (length (hexDigits (key ∷ 61 ∷ []) l)) 8 ≡ true)
   h-front = both _ _ (h-tests .0)
 
-  h-long : length (hexDigits l) ≡ 8
-  h-long = eqb-true (length (hexDigits l)) 8 (h-front .1)
+  h-long : length (hexDigits (key ∷ 61 ∷ []) l) ≡ 8
+  h-long = eqb-true (length (hexDigits (key ∷ 61 ∷ []) l)) 8 (h-front .1)
 
-  h-range : value 16 (hexDigits l) < 2 ^ 32
-  h-range = value-below sixteen 8 (hexDigits l) h-long (h-tests .1)
+  h-range : value 16 (hexDigits (key ∷ 61 ∷ []) l) < 2 ^ 32
+  h-range = value-below sixteen 8 (hexDigits (key ∷ 61 ∷ []) l) h-long (h-tests .1)
 
-  h-rest : drop 2 l ≡ hexDigits l ++ drop 10 l
+  h-rest : drop 2 l ≡ hexDigits (key ∷ 61 ∷ []) l ++ drop 10 l
   unfolding hexDigits
   h-rest = sym (take-append-drop 8 (drop 2 l)) ∙ ap (λ (m : List ℕ). take 8 (drop 2 l) ++ m) (drop-drop 8 2 l)
 
-  h-shape : l ≡ key ∷ 61 ∷ (hex (value 16 (hexDigits l)) ++ drop 10 l)
+  h-shape : l ≡ key ∷ 61 ∷ (hex (value 16 (hexDigits (key ∷ 61 ∷ []) l)) ++ drop 10 l)
   h-shape =
       begins-split (key ∷ 61 ∷ []) l (h-front .0)
-      ∙ ap (λ (m : List ℕ). key ∷ 61 ∷ m) (rw (hex-value (hexDigits l) h-long (h-tests .1)) h-rest)
+      ∙ ap (λ (m : List ℕ). key ∷ 61 ∷ m) (rw (hex-value (hexDigits (key ∷ 61 ∷ []) l) h-long (h-tests .1)) h-rest)
 
 -- an id, and what follows it and its space
 module _ (l : List ℕ) (h : hasId l ≡ true) where
@@ -215,10 +213,7 @@ module _ (l : List ℕ) (h : hasId l ≡ true) where
 
   id-after : drop (length (idDigits l)) (drop 3 l) ≡ space ∷ afterId l
   unfolding afterId
-  id-after = drop-drop (length (idDigits l)) 3 l ∙ spaced l (3 + length (idDigits l)) (id-tests .1) ∙ ap (λ (k : ℕ). space ∷ drop k l) (next (length (idDigits l)))
-    where
-      next : (k : ℕ) → 3 + k + 1 ≡ 4 + k
-      next k = omega arith
+  id-after = drop-drop (length (idDigits l)) 3 l ∙ spaced l (3 + length (idDigits l)) (id-tests .1)
 
   id-shape : l ≡ 105 ∷ 100 ∷ 61 ∷ (idDigits l ++ (space ∷ afterId l))
   id-shape =
@@ -232,8 +227,8 @@ record Accepted (l : List ℕ) (d x y : ℕ) : Type 0 where
   x-field : hasX (afterId l) ≡ true
   y-field : hasY (afterX (afterId l)) ≡ true
   d-is : value 10 (idDigits l) ≡ d
-  x-is : value 16 (hexDigits (afterId l)) ≡ x
-  y-is : value 16 (hexDigits (afterX (afterId l))) ≡ y
+  x-is : value 16 (hexDigits xKey (afterId l)) ≡ x
+  y-is : value 16 (hexDigits yKey (afterX (afterId l))) ≡ y
 
 -- of the definition's choice, the only way to a pair
 never : _≡_ {A = ℕ} 0 1 → ⊥
@@ -281,7 +276,7 @@ module _ (l : List ℕ) (d x y : ℕ) (a : Accepted l d x y) where
   unfolding afterX
   x-end =
       h-shape 120 (afterId l) (x-tests .0)
-      ∙ ap (λ (m : List ℕ). 120 ∷ 61 ∷ (hex (value 16 (hexDigits (afterId l))) ++ m)) (spaced (afterId l) 10 (x-tests .1) ∙ ap (λ (m : List ℕ). space ∷ m) y-end)
+      ∙ ap (λ (m : List ℕ). 120 ∷ 61 ∷ (hex (value 16 (hexDigits xKey (afterId l))) ++ m)) (spaced (afterId l) 10 (x-tests .1) ∙ ap (λ (m : List ℕ). space ∷ m) y-end)
       ∙ ap (λ (n : ℕ). 120 ∷ 61 ∷ (hex n ++ (space ∷ fromY y))) (a .x-is)
 
   line-is : l ≡ lineOf d x y

@@ -6,7 +6,7 @@ use lib.Dec.{eqb, leb}
 use lib.ListN.{length, take, drop}
 use Rattle.lines.specs.Bytes.{all, leading}
 use Rattle.lines.specs.Digits.{isDecimal, isHex, value}
-use Rattle.lines.specs.Format.{largestId, idDigits, isD, hasId, hexDigits, hasHex}
+use Rattle.lines.specs.Format.{largestId, idKey, idDigits, isD, hasId, hexDigits, hasHex}
 use Rattle.lines.specs.declared.read.Field.{Field}
 use Rattle.lines.specs.declared.read.Field.the-variants.{Read, Missing}
 
@@ -25,7 +25,7 @@ dAt at l = field (isD (digitsAt at l)) (value 10 (digitsAt at l)) (at + length (
 
 -- "`id=`, D, a space": D, and the place after these
 abbrev pub idOf : List ℕ → Field
-idOf l = field (hasId l) (value 10 (idDigits l)) (4 + length (idDigits l))
+idOf l = field (hasId l) (value 10 (idDigits l)) (length idKey + length (idDigits l) + 1)
 
 -- the eight bytes from a place on, whether they are an H, and H
 abbrev pub eightAt : ℕ → List ℕ → List ℕ
@@ -39,4 +39,4 @@ hAt at l = field (isH (eightAt at l)) (value 16 (eightAt at l)) (at + 8)
 
 -- a key, `=`, H: H, and the place after these
 abbrev pub hexAt : ℕ → ℕ → List ℕ → Field
-hexAt key at l = field (hasHex (key ∷ 61 ∷ []) (drop at l)) (value 16 (hexDigits (drop at l))) (at + 10)
+hexAt key at l = field (hasHex (key ∷ 61 ∷ []) (drop at l)) (value 16 (hexDigits (key ∷ 61 ∷ []) (drop at l))) (at + 10)

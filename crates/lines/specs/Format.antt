@@ -36,9 +36,9 @@ space = 32
 unfoldable pub lineOf : ℕ → ℕ → ℕ → List ℕ
 lineOf d x y = idKey ++ decimal d ++ (space ∷ xKey) ++ hex x ++ (space ∷ yKey) ++ hex y
 
--- the digits that follow the three bytes of `id=`
+-- the digits that follow `id=`
 unfoldable pub idDigits : List ℕ → List ℕ
-idDigits l = leading isDecimal (drop 3 l)
+idDigits l = leading isDecimal (drop (length idKey) l)
 
 -- digits that are a D: "0 to 65535 in decimal without leading zeros"
 unfoldable pub isD : List ℕ → Bool
@@ -46,28 +46,28 @@ isD ds = ltb 0 (length ds) && (eqb (length ds) 1 || not (eqb (getD ds 0 0) 48)) 
 
 -- whether a line begins with "`id=`, D, a space"; and what follows these
 unfoldable pub hasId : List ℕ → Bool
-hasId l = begins idKey l && isD (idDigits l) && eqb (getD l (3 + length (idDigits l)) 0) space
+hasId l = begins idKey l && isD (idDigits l) && eqb (getD l (length idKey + length (idDigits l)) 0) space
 
 unfoldable pub afterId : List ℕ → List ℕ
-afterId l = drop (4 + length (idDigits l)) l
+afterId l = drop (length idKey + length (idDigits l) + 1) l
 
--- the eight bytes that follow the two of `x=` or `y=`, and whether they are an H
-unfoldable pub hexDigits : List ℕ → List ℕ
-hexDigits l = take 8 (drop 2 l)
+-- the eight bytes that follow a key, and whether they are an H
+unfoldable pub hexDigits : List ℕ → List ℕ → List ℕ
+hexDigits key l = take 8 (drop (length key) l)
 
 unfoldable pub hasHex : List ℕ → List ℕ → Bool
-hasHex key l = begins key l && eqb (length (hexDigits l)) 8 && all isHex (hexDigits l)
+hasHex key l = begins key l && eqb (length (hexDigits key l)) 8 && all isHex (hexDigits key l)
 
 -- whether what follows begins with "`x=`, H, a space"; and what follows these
 unfoldable pub hasX : List ℕ → Bool
-hasX l = hasHex xKey l && eqb (getD l 10 0) space
+hasX l = hasHex xKey l && eqb (getD l (length xKey + 8) 0) space
 
 unfoldable pub afterX : List ℕ → List ℕ
-afterX l = drop 11 l
+afterX l = drop (length xKey + 8 + 1) l
 
 -- whether the rest is "just `y=`, H"
 unfoldable pub hasY : List ℕ → Bool
-hasY l = hasHex yKey l && eqb (length l) 10
+hasY l = hasHex yKey l && eqb (length l) (length yKey + 8)
 
 -- what a line says, or why it is refused: "Lines are tried in the order 1 to 4"
 unfoldable pub readLine : List ℕ → Line
@@ -76,7 +76,7 @@ readLine l =
     (cond (not (hasId l)) NoId
     (cond (not (hasX (afterId l))) NoX
     (cond (not (hasY (afterX (afterId l)))) NoY
-    (Pair (value 10 (idDigits l)) (value 16 (hexDigits (afterId l))) (value 16 (hexDigits (afterX (afterId l))))))))
+    (Pair (value 10 (idDigits l)) (value 16 (hexDigits xKey (afterId l))) (value 16 (hexDigits yKey (afterX (afterId l))))))))
 
 -- the numbers of the refusals
 unfoldable pub number : Line → ℕ

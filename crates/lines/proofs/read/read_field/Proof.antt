@@ -19,7 +19,7 @@ use Rattle.lines.proofs.read.read_field.Tie as tie
 
 module _ (l : List ℕ) (at key : ℕ) (positive : 0 < key) where
   -- those after the key
-  after : hexDigits (drop at l) ≡ eightAt (at + 2) l
+  after : hexDigits (key ∷ 61 ∷ []) (drop at l) ≡ eightAt (at + 2) l
   unfolding hexDigits
   after = rw (drop-drop 2 at l) refl
 

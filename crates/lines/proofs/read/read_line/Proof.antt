@@ -23,10 +23,10 @@ too-long l h = rw (lt-ltb longest (length l) h) refl
 
 -- what an id and a hexadecimal field say that were read
 abbrev Id : List ℕ → ℕ → ℕ → Type 0
-Id l d a = Found (hasId l) (value 10 (idDigits l)) (4 + length (idDigits l)) d a
+Id l d a = Found (hasId l) (value 10 (idDigits l)) (length idKey + length (idDigits l) + 1) d a
 
 abbrev Hex : List ℕ → List ℕ → ℕ → ℕ → ℕ → Type 0
-Hex key l at n e = Found (hasHex key (drop at l)) (value 16 (hexDigits (drop at l))) (at + 10) n e
+Hex key l at n e = Found (hasHex key (drop at l)) (value 16 (hexDigits key (drop at l))) (at + 10) n e
 
 module _ (l : List ℕ) (short : length l ≤ longest) where
   no-id : hasId l ≡ false → NoId ≡ readLine l
@@ -141,7 +141,7 @@ id-within l d a i = after (length (idDigits l)) (length l) (i .place) (inside l 
     last true q e = e
     last false q e = let z : _≡_ {A = ℕ} 0 1 = cc in absurd (omega arith)
 
-    after : (n m : ℕ) → a ≡ 4 + n → 3 + n < m → a ≤ m
+    after : (n m : ℕ) → a ≡ 3 + n + 1 → 3 + n < m → a ≤ m
     after n m e h = omega arith
 
 returns : tie.Need-returns
