@@ -12,6 +12,7 @@ use lib.ListN.{length, take, drop, getD, length-append, take-append-drop, drop-o
 use lib.Seq.{take-at, drop-at, getD-at, getD-drop, drop-drop, drop-cons, drop-append-add}
 use Rattle.lines.specs.Bytes.{begins, all, leading}
 use Rattle.lines.specs.Digits.{places, decimal, hex, isDecimal, isHex, value}
+use Rattle.lines.specs.Fields.{keyOf}
 use Rattle.lines.specs.Format.{longest, largestId, idKey, xKey, yKey, space, lineOf, InRange, Format}
 use Rattle.lines.specs.Format.{idDigits, isD, hasId, afterId, hexDigits, hasHex, hasX, afterX, hasY, readLine}
 use Rattle.lines.specs.declared.Line.the-variants.{Pair, TooLong, NoId, NoX, NoY}
@@ -31,11 +32,11 @@ leading-all test (b ∷ ds) c rest a h =
 
 -- a field of a key and a pattern: it is one, with the pattern's digits, and ends after ten bytes
 module _ (key n : ℕ) (rest : List ℕ) where
-  h-digits : hexDigits (key ∷ 61 ∷ []) (key ∷ 61 ∷ (hex n ++ rest)) ≡ hex n
+  h-digits : hexDigits (keyOf key) (key ∷ 61 ∷ (hex n ++ rest)) ≡ hex n
   unfolding hexDigits
   h-digits = take-at (hex n) rest 8 (length-hex n)
 
-  h-has : hasHex (key ∷ 61 ∷ []) (key ∷ 61 ∷ (hex n ++ rest)) ≡ true
+  h-has : hasHex (keyOf key) (key ∷ 61 ∷ (hex n ++ rest)) ≡ true
   unfolding hasHex begins
   h-has = rw (h-digits, eq-eqb key key refl, length-hex n, all-hex n) refl
 
@@ -171,28 +172,28 @@ spaced : (l : List ℕ) (at : ℕ) → eqb (getD l at 0) space ≡ true → drop
 spaced l at h = drop-cons l at 0 (inside l at space (lit< tt) h) ∙ rw (eqb-true (getD l at 0) space h, add-one at) refl
 
 -- a field of a key and H: the pattern, and what follows
-module _ (key : ℕ) (l : List ℕ) (h : hasHex (key ∷ 61 ∷ []) l ≡ true) where
-  h-tests : ((begins (key ∷ 61 ∷ []) l && eqb (length (hexDigits (key ∷ 61 ∷ []) l)) 8) ≡ true) × (all isHex (hexDigits (key ∷ 61 ∷ []) l) ≡ true)
+module _ (key : ℕ) (l : List ℕ) (h : hasHex (keyOf key) l ≡ true) where
+  h-tests : ((begins (keyOf key) l && eqb (length (hexDigits (keyOf key) l)) 8) ≡ true) × (all isHex (hexDigits (keyOf key) l) ≡ true)
   unfolding hasHex
   h-tests = both _ _ h
 
-  h-front : (begins (key ∷ 61 ∷ []) l ≡ true) × (eqb (length (hexDigits (key ∷ 61 ∷ []) l)) 8 ≡ true)
+  h-front : (begins (keyOf key) l ≡ true) × (eqb (length (hexDigits (keyOf key) l)) 8 ≡ true)
   h-front = both _ _ (h-tests .0)
 
-  h-long : length (hexDigits (key ∷ 61 ∷ []) l) ≡ 8
-  h-long = eqb-true (length (hexDigits (key ∷ 61 ∷ []) l)) 8 (h-front .1)
+  h-long : length (hexDigits (keyOf key) l) ≡ 8
+  h-long = eqb-true (length (hexDigits (keyOf key) l)) 8 (h-front .1)
 
-  h-range : value 16 (hexDigits (key ∷ 61 ∷ []) l) < 2 ^ 32
-  h-range = value-below sixteen 8 (hexDigits (key ∷ 61 ∷ []) l) h-long (h-tests .1)
+  h-range : value 16 (hexDigits (keyOf key) l) < 2 ^ 32
+  h-range = value-below sixteen 8 (hexDigits (keyOf key) l) h-long (h-tests .1)
 
-  h-rest : drop 2 l ≡ hexDigits (key ∷ 61 ∷ []) l ++ drop 10 l
+  h-rest : drop 2 l ≡ hexDigits (keyOf key) l ++ drop 10 l
   unfolding hexDigits
   h-rest = sym (take-append-drop 8 (drop 2 l)) ∙ ap (λ (m : List ℕ). take 8 (drop 2 l) ++ m) (drop-drop 8 2 l)
 
-  h-shape : l ≡ key ∷ 61 ∷ (hex (value 16 (hexDigits (key ∷ 61 ∷ []) l)) ++ drop 10 l)
+  h-shape : l ≡ key ∷ 61 ∷ (hex (value 16 (hexDigits (keyOf key) l)) ++ drop 10 l)
   h-shape =
-      begins-split (key ∷ 61 ∷ []) l (h-front .0)
-      ∙ ap (λ (m : List ℕ). key ∷ 61 ∷ m) (rw (hex-value (hexDigits (key ∷ 61 ∷ []) l) h-long (h-tests .1)) h-rest)
+      begins-split (keyOf key) l (h-front .0)
+      ∙ ap (λ (m : List ℕ). key ∷ 61 ∷ m) (rw (hex-value (hexDigits (keyOf key) l) h-long (h-tests .1)) h-rest)
 
 -- an id, and what follows it and its space
 module _ (l : List ℕ) (h : hasId l ≡ true) where

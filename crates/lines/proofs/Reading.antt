@@ -10,7 +10,7 @@ use lib.Dec.{eqb, ltb}
 use lib.ListN.{length, getD, drop, drop-of-length-le, List·getD-eq-default}
 use lib.Seq.{drop-cons}
 use Rattle.lines.specs.Bytes.{begins, leading}
-use Rattle.lines.specs.Fields.{field}
+use Rattle.lines.specs.Fields.{field, keyOf}
 use Rattle.lines.specs.Format.{idKey}
 use Rattle.lines.specs.declared.read.Field.the-variants.{Read, Missing}
 
@@ -82,7 +82,7 @@ begins-at b front l at h = go (ltb at (length l)) refl
         let past : length l ≤ at = ltb-false at (length l) k in
         rw (drop-of-length-le l past, List·getD-eq-default l 0 past, ne-eqb 0 b (λ z. omega arith)) refl
 
-pub begins-key : (b : ℕ) (l : List ℕ) (at : ℕ) → 0 < b → begins (b ∷ 61 ∷ []) (drop at l) ≡ (eqb (getD l at 0) b && eqb (getD l (at + 1) 0) 61)
+pub begins-key : (b : ℕ) (l : List ℕ) (at : ℕ) → 0 < b → begins (keyOf b) (drop at l) ≡ (eqb (getD l at 0) b && eqb (getD l (at + 1) 0) 61)
 unfolding begins
 begins-key b l at h = begins-at b (61 ∷ []) l at h ∙ ap (λ (t : Bool). eqb (getD l at 0) b && t) (begins-at 61 [] l (at + 1) (omega arith) ∙ and-true _)
 

@@ -37,6 +37,10 @@ isH hs = eqb (length hs) 8 && all isHex hs
 abbrev pub hAt : ℕ → List ℕ → Field
 hAt at l = field (isH (eightAt at l)) (value 16 (eightAt at l)) (at + 8)
 
--- a key, `=`, H: H, and the place after these
+-- a key, of its byte and `=`
+abbrev pub keyOf : ℕ → List ℕ
+keyOf key = key ∷ 61 ∷ []
+
+-- a key, H: H, and the place after these
 abbrev pub hexAt : ℕ → ℕ → List ℕ → Field
-hexAt key at l = field (hasHex (key ∷ 61 ∷ []) (drop at l)) (value 16 (hexDigits (key ∷ 61 ∷ []) (drop at l))) (at + 10)
+hexAt key at l = field (hasHex (keyOf key) (drop at l)) (value 16 (hexDigits (keyOf key) (drop at l))) (at + 10)

@@ -2,7 +2,7 @@
 use borrow.Author.Needs.{needs}
 use mathlib.Core.Path.{_≡_, refl, _∙_}
 use mathlib.Core.Bool.{Bool, true, false, _&&_}
-use mathlib.Core.List.{List, [], _∷_}
+use mathlib.Core.List.{List}
 use Prim.Native.Nat.{ℕ, _+_, _<_}
 use native.Mathlib.Omega.{arith}
 use lib.Dec.{eqb, lit<}
@@ -10,7 +10,7 @@ use lib.ListN.{length, getD, drop}
 use lib.Seq.{drop-drop}
 use Rattle.lines.specs.Bytes.{all}
 use Rattle.lines.specs.Digits.{isHex}
-use Rattle.lines.specs.Fields.{eightAt, hAt, hexAt}
+use Rattle.lines.specs.Fields.{eightAt, hAt, keyOf, hexAt}
 use Rattle.lines.specs.Format.{hexDigits, hasHex}
 use Rattle.lines.specs.declared.read.Field.{Field}
 use Rattle.lines.proofs.Reading.{not-there, failed, held, inside, begins-key}
@@ -19,14 +19,14 @@ use Rattle.lines.proofs.read.read_field.Tie as tie
 
 module _ (l : List ℕ) (at key : ℕ) (positive : 0 < key) where
   -- those after the key
-  after : hexDigits (key ∷ 61 ∷ []) (drop at l) ≡ eightAt (at + 2) l
+  after : hexDigits (keyOf key) (drop at l) ≡ eightAt (at + 2) l
   unfolding hexDigits
   after = rw (drop-drop 2 at l) refl
 
   -- the definition, where the outcomes of its tests are known
   known : (a b c d : Bool) → eqb (getD l at 0) key ≡ a → eqb (getD l (at + 1) 0) 61 ≡ b → eqb (length (eightAt (at + 2) l)) 8 ≡ c
       → all isHex (eightAt (at + 2) l) ≡ d
-      → hasHex (key ∷ 61 ∷ []) (drop at l) ≡ (a && b && c && d)
+      → hasHex (keyOf key) (drop at l) ≡ (a && b && c && d)
   unfolding hasHex
   known a b c d p q r s = rw (begins-key key l at positive, after, p, q, r, s) refl
 

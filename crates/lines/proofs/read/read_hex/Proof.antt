@@ -3,14 +3,14 @@ use borrow.Author.Needs.{needs}
 use borrow.Author.Tests.{eqb-true}
 use mathlib.Core.Path.{_≡_, refl, sym, ap, _∙_}
 use mathlib.Core.Bool.{Bool, true, false, _&&_}
-use mathlib.Core.List.{List, [], _∷_}
+use mathlib.Core.List.{List}
 use Prim.Native.Nat.{ℕ, _+_, _-_, _≤_, min}
 use native.Mathlib.Omega.{arith}
 use lib.ListN.{length, take, drop, length-take, length-drop}
 use lib.Seq.{take-all}
 use Rattle.lines.specs.Bytes.{begins, all}
 use Rattle.lines.specs.Digits.{isHex, value}
-use Rattle.lines.specs.Fields.{hexAt}
+use Rattle.lines.specs.Fields.{keyOf, hexAt}
 use Rattle.lines.specs.Format.{hexDigits, hasHex}
 use Rattle.lines.specs.declared.read.Field.the-variants.{Read, Missing}
 use Rattle.lines.proofs.Reading.{Found, found, missing, there, not-there}
@@ -22,9 +22,9 @@ to-end : (l : List ℕ) (at : ℕ) → take (length l - at) (drop at l) ≡ drop
 to-end l at = take-all (length l - at) (drop at l) (let e : length (drop at l) ≡ length l - at = length-drop at l in omega arith)
 
 -- a hexadecimal field has ten bytes
-ten-bytes : (key : ℕ) (l : List ℕ) → hasHex (key ∷ 61 ∷ []) l ≡ true → 10 ≤ length l
+ten-bytes : (key : ℕ) (l : List ℕ) → hasHex (keyOf key) l ≡ true → 10 ≤ length l
 unfolding hasHex hexDigits
-ten-bytes key l h = enough _ _ _ (eqb-true _ 8 (middle (begins (key ∷ 61 ∷ []) l) _ (all isHex (take 8 (drop 2 l))) h)) (length-take 8 (drop 2 l)) (length-drop 2 l)
+ten-bytes key l h = enough _ _ _ (eqb-true _ 8 (middle (begins (keyOf key) l) _ (all isHex (take 8 (drop 2 l))) h)) (length-take 8 (drop 2 l)) (length-drop 2 l)
   where
     middle : (a b c : Bool) → (a && b && c) ≡ true → b ≡ true
     middle true true c e = refl
@@ -37,7 +37,7 @@ ten-bytes key l h = enough _ _ _ (eqb-true _ 8 (middle (begins (key ∷ 61 ∷ [
 
 module _ (l : List ℕ) (at key : ℕ) where
   -- what was read in the part
-  in-part : (n e : ℕ) → Read n e ≡ hexAt key 0 (take (length l - at) (drop at l)) → Found (hasHex (key ∷ 61 ∷ []) (drop at l)) (value 16 (hexDigits (key ∷ 61 ∷ []) (drop at l))) 10 n e
+  in-part : (n e : ℕ) → Read n e ≡ hexAt key 0 (take (length l - at) (drop at l)) → Found (hasHex (keyOf key) (drop at l)) (value 16 (hexDigits (keyOf key) (drop at l))) 10 n e
   in-part n e h = found _ _ _ _ _ (h ∙ ap (hexAt key 0) (to-end l at))
 
   read : (n e : ℕ) → Read n e ≡ hexAt key 0 (take (length l - at) (drop at l)) → Read n (at + e) ≡ hexAt key at l
