@@ -8,13 +8,12 @@ use native.Mathlib.Omega.{arith}
 use lib.Dec.{ltb}
 use borrow.Author.Tests.{lt-ltb}
 use lib.ListN.{length, length-append}
-use lib.Ieee.{binary32, toBits}
 use Rattle.compound.specs.Answer.{Via, rule, whole, edge, fast, slow, Outcome, word}
 use Rattle.lines.specs.Digits.{places}
 use Rattle.lines.specs.Format.{lineOf, longest, readLine, number}
 use Rattle.lines.proofs.Numerals.{length-decimal, length-hex}
 use Rattle.lines.proofs.BothWays.{both-ways}
-use Rattle.lines.specs.Reply.{answered, bad, ending, answerTo, replyTo, written}
+use Rattle.lines.specs.Reply.{answered, bad, ending, answerTo, answerPattern, replyTo, written}
 use Rattle.lines.specs.declared.Line.{Line}
 use Rattle.lines.specs.declared.Line.the-variants.{Pair, TooLong, NoId, NoX, NoY}
 
@@ -40,7 +39,7 @@ word-most slow = omega arith
 -- an answer line: what it says beside its id and its route takes twenty bytes
 pub length-answered : (d : ℕ) (o : Outcome) → length (written (answered d o)) ≡ 20 + places 9 d + length (word (o .via))
 unfolding written ending
-length-answered d o = simp length-append (omega (arith, length-decimal d, length-hex (toBits binary32 (o .value))))
+length-answered d o = simp length-append (omega (arith, length-decimal d, length-hex (answerPattern (o .value))))
 
 -- the line of a refusal: its number and five bytes
 pub length-bad : (n : ℕ) → length (written (bad n)) ≡ 5 + places 9 n

@@ -6,4 +6,5 @@ pub mod Eight
 pub mod Reading
 pub mod BothWays
 pub mod Lengths
+pub mod Patterns
 pub mod Examples

@@ -1,7 +1,8 @@
 -- Document 01, "Batch lines and the reader's state": what a line is answered with, and the answer line.
 use Prim.Native.Nat.{ℕ}
+use mathlib.Core.Bool.{cond}
 use mathlib.Core.List.{List, [], _∷_, _++_}
-use lib.Ieee.{binary32, ofBits, toBits}
+use lib.Ieee.{Float, binary32, isNan, ofBits, toBits}
 use Rattle.compound.specs.Answer.{Via, Outcome, outcome, word}
 use Rattle.compound.specs.Route.{compound}
 use Rattle.lines.specs.Digits.{decimal, hex}
@@ -32,9 +33,13 @@ replyTo l = answerTo (readLine l)
 unfoldable pub ending : Via → List ℕ
 ending via = (32 ∷ 118 ∷ 105 ∷ 97 ∷ 61 ∷ []) ++ word via ++ (10 ∷ [])
 
--- "An answer line is `id=D r=H via=W`, or `bad=N`, and a line feed." The pattern of a NaN is 7fc00000 (`nan-pattern` in proofs/Examples.antt).
+-- the pattern of an answer: "A NaN answer is the pattern 7fc00000."
+unfoldable pub answerPattern : Float → ℕ
+answerPattern r = cond (isNan r) 0x7fc00000 (toBits binary32 r)
+
+-- "An answer line is `id=D r=H via=W`, or `bad=N`, and a line feed."
 unfoldable pub written : Told → List ℕ
-written (answered d o) = idKey ++ decimal d ++ (32 ∷ 114 ∷ 61 ∷ []) ++ hex (toBits binary32 (o .value)) ++ ending (o .via)
+written (answered d o) = idKey ++ decimal d ++ (32 ∷ 114 ∷ 61 ∷ []) ++ hex (answerPattern (o .value)) ++ ending (o .via)
 written (bad n) = (98 ∷ 97 ∷ 100 ∷ 61 ∷ []) ++ decimal n ++ (10 ∷ [])
 
 -- what each case of the code's enum says

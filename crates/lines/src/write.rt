@@ -7,16 +7,15 @@ use floats::patterns::to_bits_f32;
 ghost use mathlib.Core.Path.{_≡_};
 ghost use mathlib.Core.List.{_++_};
 ghost use Prim.Native.Nat.{_+_, _≤_};
-ghost use lib.Ieee.{binary32, toBits};
 ghost use lib.ListN.{length};
 ghost use Rattle.compound.specs.Answer.{outcome, word};
 ghost use Rattle.lines.specs.Bytes.{put};
 ghost use Rattle.lines.specs.Digits.{decimal};
-ghost use Rattle.lines.specs.Reply.{told, written, answered, bad, ending};
+ghost use Rattle.lines.specs.Reply.{told, written, answered, bad, answerPattern, ending};
 
-// The pattern of an answer; 7fc00000 for a NaN.
+// The pattern of an answer: to_bits_f32 gives 7fc00000 for a NaN.
 fn pattern(answer: Answer) -> u32
-    ensures { λ r. ⌜ r ≡ toBits binary32 (outcome answer .value) ⌝ }
+    ensures { λ r. ⌜ r ≡ answerPattern (outcome answer .value) ⌝ }
 {
     match answer {
         Answer::Rule(r) => to_bits_f32(r),

@@ -5,12 +5,14 @@ use lib.Ieee.{Float, binary32, toBits}
 use Rattle.compound.specs.declared.Answer.{Answer}
 use Rattle.compound.specs.Answer.{outcome}
 use borrow.Author.Needs.{needs}
+use Rattle.lines.specs.Reply.{answerPattern}
+use Rattle.lines.proofs.Patterns.{answer-pattern}
 use Rattle.lines.proofs.write.pattern.Statement.{statement}
 use Rattle.lines.proofs.write.pattern.Tie as tie
 
 -- an answer that is known by its case
-by-case : (a b : Answer) (r : Float) (n : ℕ) → a ≡ b → outcome b .value ≡ r → n ≡ toBits binary32 r → n ≡ toBits binary32 (outcome a .value)
-by-case a b r n h e g = g ∙ ap (λ (x : Float). toBits binary32 x) (sym e ∙ sym (ap (λ (x : Answer). outcome x .value) h))
+by-case : (a b : Answer) (r : Float) (n : ℕ) → a ≡ b → outcome b .value ≡ r → n ≡ toBits binary32 r → n ≡ answerPattern (outcome a .value)
+by-case a b r n h e g = g ∙ sym (answer-pattern r) ∙ ap answerPattern (sym e ∙ sym (ap (λ (x : Answer). outcome x .value) h))
 
 enum-known-answer : tie.Need-enum-known-answer
 enum-known-answer c = search needs

@@ -6,14 +6,13 @@ use Prim.Native.Nat.{ℕ, _+_, _≤_}
 use native.Mathlib.Omega.{arith}
 use denote.Ref.{now}
 use lib.Dec.{lit≤, lit<}
-use lib.Ieee.{binary32, toBits}
 use lib.ListN.{length}
 use Rattle.compound.specs.declared.Answer.{Answer}
 use Rattle.compound.specs.Answer.{outcome}
 use Rattle.lines.specs.Bytes.{put}
 use Rattle.lines.specs.Digits.{digits, decimal, hex}
 use Rattle.lines.specs.Format.{idKey}
-use Rattle.lines.specs.Reply.{answered, ending, written}
+use Rattle.lines.specs.Reply.{answered, answerPattern, ending, written}
 use Rattle.lines.proofs.Numerals.{length-hex}
 use Rattle.lines.proofs.Wrote.{Wrote, first-part, room, then}
 use Rattle.lines.proofs.write.put_answer.Statement.{statement}
@@ -27,7 +26,7 @@ abbrev rKey : List ℕ
 rKey = 32 ∷ 114 ∷ 61 ∷ []
 
 abbrev pattern : Answer → List ℕ
-pattern a = hex (toBits binary32 (outcome a .value))
+pattern a = hex (answerPattern (outcome a .value))
 
 abbrev route : Answer → List ℕ
 route a = ending (outcome a .via)
