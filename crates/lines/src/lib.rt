@@ -7,6 +7,7 @@ mod write;
 use compound::Answer;
 pub use read::read_line;
 pub use write::put_bytes;
+pub use write::put_number;
 pub use write::reply_length;
 pub use write::write_reply;
 ghost use mathlib.Core.Path.{_≡_};

@@ -54,7 +54,7 @@ pub fn put_bytes(text: &[u8], out: &mut [u8], at: usize) -> usize
 }
 
 // Puts text and a number in decimal after it at the place `at`, and answers the place after them.
-fn put_number(text: &[u8], n: u32, out: &mut [u8], at: usize) -> usize
+pub fn put_number(text: &[u8], n: u32, out: &mut [u8], at: usize) -> usize
     requires { ⌜ at + length (now text ++ decimal n) ≤ length (now out) ⌝ }
     ensures { λ r. ⌜ r ≡ at + length (now (text .entry) ++ decimal n) ⌝ }
     ensures { λ _. ⌜ now (out .exit) ≡ put (now (out .entry)) at (now (text .entry) ++ decimal n) ⌝ }
