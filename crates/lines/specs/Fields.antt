@@ -1,4 +1,5 @@
 -- What the code that reads a line finds at a place of it: a field's value and the place after it, or that the field is missing.
+-- No public contract rests on these definitions: they serve the functions inside the crate.
 use Prim.Native.Nat.{ℕ, _+_}
 use mathlib.Core.Bool.{Bool, _&&_, cond}
 use mathlib.Core.List.{List, [], _∷_}

@@ -153,8 +153,8 @@ fn read_field(line: &[u8], at: usize, key: u8) -> Field
     read_h(line, at + 2)
 }
 
-// The same, by way of the part of the line from there on: where the line itself is passed on, it is
-// copied, and the copy waits for the line to be written.
+// The same, through the part of the line from there on: its pointer and length then pass in
+// registers. Those of a line that is passed on whole go through memory, which costs time.
 fn read_hex(line: &[u8], at: usize, key: u8) -> Field
     requires { ⌜ 0 < key ⌝ }
     requires { ⌜ at ≤ length (now line) ⌝ }
