@@ -99,7 +99,7 @@ returns-2 c =
 returns-3 : tie.Need-returns-3 Inv-loop μ-loop
 returns-3 c =
     let d = c .before in
-    too-large _ _ _ _ (d .before .before .before .before .loop .inv) (d .before .before .before .loop-test .taken) (d .before .if1 .left) (d .if2 .left) (c .if3 .taken)
+    too-large _ _ _ _ (d .before .before .before .before .loop .inv) (d .before .before .before .loop-test .taken) (d .before .if1 .left) (d .if2 .left) (omega (arith, c .if3 .taken))
 
 loop-again : tie.Need-loop-again Inv-loop μ-loop
 loop-again c =
