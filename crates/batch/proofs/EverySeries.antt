@@ -3,20 +3,15 @@ use Prim.Native.Nat.{ℕ, _+_, _≤_, _<_}
 use native.Mathlib.Omega.{arith}
 use mathlib.Core.Path.{_≡_, refl, sym, ap, _∙_}
 use mathlib.Core.Bool.{Bool, true, false, cond}
-use mathlib.Core.List.{List, [], _∷_, _++_, append-nil, append-assoc}
+use mathlib.Core.List.{List, [], _∷_, _++_, map, append-nil, append-assoc}
 use lib.Dec.{eqb, ltb}
 use lib.ListN.{length, take, drop}
 use lib.Seq.{take-at}
 use borrow.Author.Tests.{ltb-false}
-use lib.Ieee.{binary32, ofBits, toBits}
 use Rattle.answers.proofs.EveryAnswer.{claims}
-use Rattle.answers.specs.Claims.{answer}
-use Rattle.compound.specs.Answer.{word}
-use Rattle.compound.specs.Route.{compound}
-use Rattle.lines.specs.Digits.{decimal, hex}
-use Rattle.lines.specs.Format.{idKey, readLine}
-use Rattle.lines.specs.Reply.{Told, answerTo, replyTo, written, ending}
-use Rattle.lines.specs.declared.Line.{Line}
+use Rattle.lines.specs.Format.{readLine}
+use Rattle.lines.specs.Reply.{answerTo, replyTo}
+use Rattle.lines.proofs.BothWays.{both-ways}
 use Rattle.lines.specs.declared.Line.the-variants.{Pair}
 use Rattle.batch.specs.declared.State.{State}
 use Rattle.batch.specs.declared.Fed.{Fed}
@@ -26,7 +21,7 @@ use Rattle.batch.specs.Complete.{linesFrom, lines, rest, feeds}
 use Rattle.batch.specs.Holding.{fresh, hold}
 use Rattle.batch.specs.Tally.{counts}
 use Rattle.batch.specs.Feed.{mostLines, replies, joined, answerLines, added, number, stateAfter, outAfter, fed, Did}
-use Rattle.batch.specs.Series.{Call, Calls, stateOf, isAccepted, accepted, said, wrote, wroteAll, adds, due, Answered, Obeyed, Served, Always}
+use Rattle.batch.specs.Series.{Call, Calls, stateOf, isAccepted, accepted, said, wrote, wroteAll, adds, due, takes, dueAll, asked, verdicts, Answered, Obeyed, Served, Always, Possible}
 use Rattle.batch.proofs.Replied.{answer-append}
 use Rattle.batch.proofs.Carrying.{after-all, after-none, verdict-due, after-more, answers-added, lines-more}
 
@@ -34,10 +29,22 @@ use Rattle.batch.proofs.Carrying.{after-all, after-none, verdict-due, a
 unfoldable pub taken : Call → List ℕ
 taken c = cond (isAccepted c) (c .piece) []
 
+-- that is what its answer says
+taken-takes : (c : Call) → taken c ≡ takes (c .returned .verdict) (c .piece)
+unfolding taken isAccepted number takes
+taken-takes c = by (c .returned .verdict) (c .piece)
+  where
+    by : (v : Verdict) (p : List ℕ) → cond (eqb (number v) 0) p [] ≡ takes v p
+    by (Accepted n) p = refl
+    by Broken p = refl
+    by TooManyLines p = refl
+    by NoRoom p = refl
+
 -- one call, after the bytes t were taken
 pub record Step (t : List ℕ) (c : Call) : Type 0 where
   pub state-is : c .returned .state ≡ after-all (t ++ taken c)
-  pub wrote-is : answerLines (lines t) ++ wrote c ≡ answerLines (lines (t ++ taken c))
+  pub wrote-after : answerLines (lines t) ++ wrote c ≡ answerLines (lines (t ++ taken c))
+  pub wrote-is : wrote c ≡ cond (isAccepted c) (answerLines (adds t (c .piece))) []
   pub verdict-is : c .returned .verdict ≡ due t (c .piece) (length (c .out))
   pub never-five : c .returned .verdict ≡ Broken → ⊥
   pub leaves : isAccepted c ≡ false → (c .returned .state ≡ after-all t) × (c .out-after ≡ c .out)
@@ -60,6 +67,12 @@ module _ (m : ℕ) where
   neither true short n e = let z : _≡_ {A = ℕ} 0 1 = cc in absurd (omega arith)
   neither false true n e = let z : _≡_ {A = ℕ} 0 1 = cc in absurd (omega arith)
   neither false false n e = (refl, refl)
+
+  its-number : (many short : Bool) → number (chosen many short) ≡ cond many 6 (cond short 7 0)
+  unfolding chosen number
+  its-number true short = refl
+  its-number false true = refl
+  its-number false false = refl
 
   not-five : (many short : Bool) → chosen many short ≡ Broken → ⊥
   unfolding chosen
@@ -85,6 +98,10 @@ module _ (t p : List ℕ) (room : ℕ) where
       let a : n ≡ length (answerLines (adds t p)) = due-says n e in
       let b : length (answerLines (adds t p)) ≤ room = ltb-false room (length (answerLines (adds t p))) (due-neither n e .1) in
       omega arith
+
+  due-number : number (due t p room) ≡ cond (ltb mostLines (feeds t + feeds p)) 6 (cond (ltb room (length (answerLines (adds t p)))) 7 0)
+  unfolding due chosen
+  due-number = its-number (length (answerLines (adds t p))) (ltb mostLines (feeds t + feeds p)) (ltb room (length (answerLines (adds t p))))
 
   due-not-five : due t p room ≡ Broken → ⊥
   unfolding due chosen
@@ -116,7 +133,8 @@ module _ (t : List ℕ) (c : Call) (d : Did (after-all t) (c .piece) (c .out) (c
       let wrote-none : wrote c ≡ [] = ap (λ (k : ℕ). take k (c .out-after)) (ap said e ∙ s) in
       record {
         state-is = state ∙ ap after-all (sym none);
-        wrote-is = ap (λ (k : List ℕ). answerLines (lines t) ++ k) wrote-none ∙ append-nil (answerLines (lines t)) ∙ ap (λ (k : List ℕ). answerLines (lines k)) (sym none);
+        wrote-after = ap (λ (k : List ℕ). answerLines (lines t) ++ k) wrote-none ∙ append-nil (answerLines (lines t)) ∙ ap (λ (k : List ℕ). answerLines (lines k)) (sym none);
+        wrote-is = wrote-none ∙ ap (λ (b : Bool). cond b (answerLines (adds t (c .piece))) []) (sym no);
         verdict-is = is-due;
         never-five = never-five;
         leaves = λ _. (state, out);
@@ -137,7 +155,8 @@ module _ (t : List ℕ) (c : Call) (d : Did (after-all t) (c .piece) (c .out) (c
       ap (λ (k : ℕ). take k (c .out-after)) count ∙ ap (take n) out ∙ take-at (answerLines (added (after-all t) (c .piece))) (drop n (c .out)) n size in
       record {
         state-is = its-state ∙ ap (λ (k : Verdict). stateAfter k (after-all t) (c .piece)) e ∙ after-more t (c .piece) ∙ ap after-all (sym all);
-        wrote-is =
+        wrote-is = front ∙ answers-added t (c .piece) ∙ ap (λ (b : Bool). cond b (answerLines (adds t (c .piece))) []) (sym yes);
+        wrote-after =
             ap (λ (k : List ℕ). answerLines (lines t) ++ k) (front ∙ answers-added t (c .piece))
             ∙ sym (answer-append (lines t) (adds t (c .piece)))
             ∙ ap answerLines (sym (lines-more t (c .piece)))
@@ -165,6 +184,7 @@ record After (t : List ℕ) (before : List Call) (c : Call) : Type 0 where
   pub verdict-is : c .returned .verdict ≡ due (t ++ accepted before) (c .piece) (length (c .out))
   pub never-five : c .returned .verdict ≡ Broken → ⊥
   pub leaves : isAccepted c ≡ false → (c .returned .state ≡ stateOf (after-all t) before) × (c .out-after ≡ c .out)
+  pub wrote-is : wrote c ≡ cond (isAccepted c) (answerLines (adds (t ++ accepted before) (c .piece))) []
   pub wrote-said : length (wrote c) ≡ said (c .returned .verdict)
   pub kept : c .out-after ≡ wrote c ++ drop (said (c .returned .verdict)) (c .out)
 
@@ -172,6 +192,7 @@ record After (t : List ℕ) (before : List Call) (c : Call) : Type 0 where
 record From (t : List ℕ) (cs : List Call) : Type 0 where
   pub states : stateOf (after-all t) cs ≡ after-all (t ++ accepted cs)
   pub bytes : answerLines (lines t) ++ wroteAll cs ≡ answerLines (lines (t ++ accepted cs))
+  pub all-due : verdicts cs ≡ dueAll t (asked cs)
   pub each : (before : List Call) (c : Call) (later : List Call) → cs ≡ before ++ c ∷ later → After t before c
 
 -- the first call of a list
@@ -182,6 +203,7 @@ first-call t c s =
       verdict-is = rw append-nil (s .verdict-is);
       never-five = s .never-five;
       leaves = s .leaves;
+      wrote-is = rw append-nil (s .wrote-is);
       wrote-said = s .wrote-said;
       kept = s .kept;
     }
@@ -194,16 +216,27 @@ later-call t b c before s a =
       verdict-is = a .verdict-is ∙ ap (λ (k : List ℕ). due k (c .piece) (length (c .out))) (append-assoc t (taken b) (accepted before));
       never-five = a .never-five;
       leaves = λ no. (a .leaves no .0 ∙ ap (λ (k : State). stateOf k before) (sym (s .state-is)), a .leaves no .1);
+      wrote-is = a .wrote-is ∙ ap (λ (k : List ℕ). cond (isAccepted c) (answerLines (adds k (c .piece))) []) (append-assoc t (taken b) (accepted before));
       wrote-said = a .wrote-said;
       kept = a .kept;
     }
 
+-- the verdict of the first call, and those of the others
+more-due : (t : List ℕ) (c : Call) (cs : List Call) → Step t c → verdicts cs ≡ dueAll (t ++ taken c) (asked cs) → verdicts (c ∷ cs) ≡ dueAll t (asked (c ∷ cs))
+unfolding dueAll
+more-due t c cs s e =
+    let room : ℕ = length (c .out) in
+    ap (λ (v : Verdict). v ∷ verdicts cs) (s .verdict-is)
+    ∙ ap (λ (k : List Verdict). due t (c .piece) room ∷ k) e
+    ∙ ap (λ (k : List ℕ). due t (c .piece) room ∷ dueAll (t ++ k) (asked cs)) (taken-takes c ∙ ap (λ (v : Verdict). takes v (c .piece)) (s .verdict-is))
+
 from : (t : List ℕ) (cs : List Call) → Calls Did (after-all t) cs → From t cs
-unfolding Calls stateOf accepted wroteAll taken
+unfolding Calls stateOf accepted wroteAll taken dueAll
 from t [] ds =
     record {
       states = ap after-all (sym (append-nil t));
       bytes = append-nil (answerLines (lines t)) ∙ ap (λ (k : List ℕ). answerLines (lines k)) (sym (append-nil t));
+      all-due = refl;
       each = λ before c later e. absurd (no-call before c later e);
     }
   where
@@ -218,9 +251,10 @@ from t (c ∷ cs) (d, ds) = joined (step t c d) (from (t ++ taken c) cs (rw (sym
           states = ap (λ (k : State). stateOf k cs) (s .state-is) ∙ f .states ∙ ap after-all (append-assoc t (taken c) (accepted cs));
           bytes =
               sym (append-assoc (answerLines (lines t)) (wrote c) (wroteAll cs))
-              ∙ ap (λ (k : List ℕ). k ++ wroteAll cs) (s .wrote-is)
+              ∙ ap (λ (k : List ℕ). k ++ wroteAll cs) (s .wrote-after)
               ∙ f .bytes
               ∙ ap (λ (k : List ℕ). answerLines (lines k)) (append-assoc t (taken c) (accepted cs));
+          all-due = more-due t c cs s (f .all-due);
           each = λ before b later e. at before b later e;
         }
       where
@@ -229,19 +263,10 @@ from t (c ∷ cs) (d, ds) = joined (step t c d) (from (t ++ taken c) cs (rw (sym
         at (a ∷ before) b later e =
             let z : c ≡ a = cc in let y : cs ≡ before ++ b ∷ later = cc in rw (sym z) (later-call t c b before s (f .each before b later y))
 
--- three texts after a text, grouped either way
-regroup : (a u v w : List ℕ) → a ++ (u ++ v ++ w) ≡ a ++ u ++ v ++ w
-regroup a u v w = sym (append-assoc a (u ++ v) w) ∙ ap (λ (k : List ℕ). k ++ w) (sym (append-assoc a u v))
-
 -- each line that says d, x and y
 each-line : (l : List ℕ) (d x y : ℕ) → readLine l ≡ Pair d x y → Answered l d x y
-unfolding replyTo answerTo written ending
-each-line l d x y e = record {
-  answer-line = ap (λ (k : Line). written (answerTo k)) e
-      ∙ regroup (idKey ++ decimal d ++ (32 ∷ 114 ∷ 61 ∷ []) ++ hex (toBits binary32 (answer (ofBits binary32 x) (ofBits binary32 y)))) (32 ∷ 118 ∷ 105 ∷ 97 ∷ 61 ∷ [])
-      (word (compound (ofBits binary32 x) (ofBits binary32 y) .via)) (10 ∷ []);
-  claims = claims x y;
-}
+unfolding replyTo answerTo
+each-line l d x y e = record { line-is = both-ways .nothing-else l d x y e .0; told-is = ap answerTo e; claims = claims x y }
 
 -- demand 3
 pub every-series : Always Did
@@ -256,6 +281,7 @@ every-series cs ds = served (from [] cs (rw after-none ds))
           lines-counted = ap (λ (k : State). k .lines) state;
           tallies-counted = ap (λ (k : State). k .tallies) state;
           tail-held = ap (λ (k : State). k .tail) state;
+          verdicts-due = f .all-due;
           each-call = λ before c later e. obeyed before c (f .each before c later e);
           each-line = each-line;
         }
@@ -264,8 +290,27 @@ every-series cs ds = served (from [] cs (rw after-none ds))
         obeyed before c a =
             record {
               verdict-due = a .verdict-is;
+              number-due = ap number (a .verdict-is) ∙ due-number (accepted before) (c .piece) (length (c .out));
               never-five = a .never-five;
               refused-leaves = λ no. (a .leaves no .0 ∙ ap (λ (k : State). stateOf k before) after-none, a .leaves no .1);
+              wrote-is = a .wrote-is;
               wrote-said = a .wrote-said;
               rest-kept = a .kept;
             }
+
+-- there are such calls: each is given what feed answers
+calls-of : (s : State) (given : List (List ℕ × List ℕ)) → (cs : List Call) × ((map (λ (c : Call). (c .piece, c .out)) cs ≡ given) × Calls Did s cs)
+unfolding Calls
+calls-of s [] = ([], (refl, tt))
+calls-of s ((p, out) ∷ given) = more (calls-of (fed s p (length out) .state) given)
+  where
+    call : Call
+    call = record { piece = p; out = out; returned = fed s p (length out); out-after = outAfter (fed s p (length out) .verdict) s p out }
+
+    more : (cs : List Call) × ((map (λ (c : Call). (c .piece, c .out)) cs ≡ given) × Calls Did (fed s p (length out) .state) cs)
+        → (cs : List Call) × ((map (λ (c : Call). (c .piece, c .out)) cs ≡ (p, out) ∷ given) × Calls Did s cs)
+    more (cs, (e, ds)) = (call ∷ cs, (ap (λ (k : List (List ℕ × List ℕ)). (p, out) ∷ k) e, (record { result = refl; output = refl }, ds)))
+
+pub possible : Possible Did
+unfolding Possible
+possible given = calls-of fresh given

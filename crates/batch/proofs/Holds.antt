@@ -29,11 +29,17 @@ pub hold-long : (l : List ℕ) → longest < length l → hold l ≡ marked
 unfolding hold
 hold-long l h = rw (lt-leb _ _ h)
 
+-- a tail with no mark holds as many of its bytes as the count says
+pub carried-kept : (t : Tail) → t .count ≤ longest → carried t ≡ take (t .count) (t .bytes)
+unfolding carried
+carried-kept t h = rw (ne-eqb (t .count) overLong (omega arith))
+
 -- the bytes of a line that is kept come back
 pub carried-short : (l : List ℕ) → length l ≤ longest → carried (hold l) ≡ l
-unfolding carried
 carried-short l h =
-    ap carried (hold-short l h) ∙ rw (append-assoc l (drop (length l) zeros) (0 ∷ [])) (take-at l (drop (length l) zeros ++ 0 ∷ []) (length l) refl)
+    ap carried (hold-short l h)
+    ∙ carried-kept (record { bytes = l ++ drop (length l) zeros; count = length l }) h
+    ∙ take-at l (drop (length l) zeros) (length l) refl
 
 -- those of an over-long line come back as an over-long line
 pub carried-long : (l : List ℕ) → longest < length l → longest < length (carried (hold l))
@@ -92,14 +98,14 @@ held-long t s h = by (leb (length (carried t)) longest) refl
         absurd (omega arith)
     by false e = leb-false _ _ e
 
--- no tail holds more bytes than the mark says
-pub held-most : (t : Tail) → Sound t → length (carried t) ≤ overLong
+-- the count is the length of the line that a sound tail holds, or of what stands for it
+pub held-length : (t : Tail) → Sound t → t .count ≡ length (carried t)
 unfolding carried
-held-most t s = by (leb (length (carried t)) longest) refl
+held-length t s = by (leb (t .count) longest) refl
   where
-    by : (b : Bool) → leb (length (carried t)) longest ≡ b → length (carried t) ≤ overLong
-    by true e = let h : length (carried t) ≤ longest = leb-true _ _ e in omega arith
-    by false e = rw (s ∙ hold-long (carried t) (leb-false _ _ e)) (lit≤ tt)
+    by : (b : Bool) → leb (t .count) longest ≡ b → t .count ≡ length (carried t)
+    by true e = held-count t s (leb-true _ _ e)
+    by false e = rw (s ∙ hold-long (carried t) (held-long t s (leb-false _ _ e))) refl
 
 -- a part more of the line that a sound tail holds
 module _ (t : Tail) (s : Sound t) (part : List ℕ) where

@@ -20,7 +20,7 @@ use Rattle.batch.specs.Holding.{hold, carried}
 use Rattle.batch.proofs.Cutting.{FirstLine, length-lines}
 use Rattle.batch.proofs.Holds.{carried-short, carried-long}
 use Rattle.batch.specs.Tally.{none, byRoute, one, plus, counts, total}
-use Rattle.batch.specs.Feed.{replies, joined, answerLines}
+use Rattle.batch.specs.Feed.{more, replies, joined, answerLines}
 
 -- the first line's answer line, and then those of the others
 pub answer-first : (l : List ℕ) (ls : List (List ℕ)) → answerLines (l ∷ ls) ≡ written (replyTo l) ++ answerLines ls
@@ -114,21 +114,21 @@ pub reply-tail : (t : Tail) (l : List ℕ) → t ≡ hold l → replyTo (carried
 reply-tail t l e = ap (λ (k : Tail). replyTo (carried k)) e ∙ reply-held l
 
 -- Answers of a tail's line and a piece: an answer line is at most six bytes longer than its line, and its line feed is one of the piece's.
-pub answers-length : (p so : List ℕ) → length (answerLines (linesFrom so p)) + length (restFrom so p) ≤ length so + length p + 5 * feeds p
+pub answers-length : (p so : List ℕ) → length (answerLines (linesFrom so p)) + length (restFrom so p) ≤ length so + length p + more * feeds p
 unfolding linesFrom restFrom feeds answerLines replies joined
 answers-length [] so = omega arith
 answers-length (b ∷ p) so = by (eqb b lineFeed) (answers-length p []) (answers-length p (so ++ b ∷ []))
   where
-    ended : (a w s n f r : ℕ) → a + r ≤ 0 + n + 5 * f → w ≤ s + 6 → w + a + r ≤ s + (n + 1) + 5 * (f + 1)
+    ended : (a w s n f r : ℕ) → a + r ≤ 0 + n + more * f → w ≤ s + 6 → w + a + r ≤ s + (n + 1) + more * (f + 1)
     ended a w s n f r h g = omega arith
 
-    longer : (a s t n f r : ℕ) → a + r ≤ t + n + 5 * f → t ≡ s + 1 → a + r ≤ s + (n + 1) + 5 * f
+    longer : (a s t n f r : ℕ) → a + r ≤ t + n + more * f → t ≡ s + 1 → a + r ≤ s + (n + 1) + more * f
     longer a s t n f r h e = omega arith
 
-    by : (t : Bool) → length (answerLines (linesFrom [] p)) + length (restFrom [] p) ≤ 0 + length p + 5 * feeds p
-        → length (answerLines (linesFrom (so ++ b ∷ []) p)) + length (restFrom (so ++ b ∷ []) p) ≤ length (so ++ b ∷ []) + length p + 5 * feeds p
+    by : (t : Bool) → length (answerLines (linesFrom [] p)) + length (restFrom [] p) ≤ 0 + length p + more * feeds p
+        → length (answerLines (linesFrom (so ++ b ∷ []) p)) + length (restFrom (so ++ b ∷ []) p) ≤ length (so ++ b ∷ []) + length p + more * feeds p
         → length (answerLines (cond t (so ∷ linesFrom [] p) (linesFrom (so ++ b ∷ []) p))) + length (cond t (restFrom [] p) (restFrom (so ++ b ∷ []) p))
-        ≤ length so + suc (length p) + 5 * cond t (feeds p + 1) (feeds p)
+        ≤ length so + suc (length p) + more * cond t (feeds p + 1) (feeds p)
     by true h g =
         rw (length-append (written (replyTo so)) (answerLines (linesFrom [] p)), ← add-one (length p))
         (ended _ _ _ _ _ _ h (answer-length so))

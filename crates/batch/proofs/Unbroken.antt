@@ -17,10 +17,10 @@ use Rattle.batch.specs.Complete.{feeds}
 use Rattle.batch.specs.Tally.{total}
 use Rattle.batch.specs.Holding.{overLong, zeros, hold, carried, Sound, unused, broken}
 use Rattle.batch.proofs.Cutting.{feeds-append}
-use Rattle.batch.proofs.Holds.{marked, hold-short, hold-long}
+use Rattle.batch.proofs.Holds.{marked, hold-short, hold-long, carried-kept}
 
 -- true is not false
-pub contra : true ≡ false → ⊥
+contra : true ≡ false → ⊥
 contra e = let z : _≡_ {A = ℕ} 0 1 = cc in omega arith
 
 -- four tests of which none holds
@@ -76,11 +76,11 @@ module _ (s : State) (places : length (s .tail .bytes) ≡ longest) (h : broken 
 
   -- another is kept
   is-kept : s .tail .count ≤ longest → Sound (s .tail)
-  unfolding unused carried
+  unfolding unused
   is-kept g =
       let n : ℕ = s .tail .count in
       let b : List ℕ = s .tail .bytes in
-      let c : carried (s .tail) ≡ take n b = take-append-le n b (0 ∷ []) (omega arith) in
+      let c : carried (s .tail) ≡ take n b = carried-kept (s .tail) g in
       let l : length (carried (s .tail)) ≡ n = ap length c ∙ length-take-le n b (omega arith) in
       let z : drop n b ≡ drop n zeros =
       all-zeros (drop n b) (rw (ne-eqb n overLong (omega arith)) at unused-zero) ∙ ap (λ (k : ℕ). replicate k 0) (length-drop n b ∙ ap (λ (k : ℕ). k - n) places) ∙ sym (drop-zeros n longest) in

@@ -20,6 +20,10 @@ use Rattle.batch.specs.declared.Closed.the-variants.{Whole, BrokenState,
 abbrev pub mostLines : ℕ
 mostLines = 0xffff_ffff
 
+-- an answer line is at most so many bytes longer than its line, each with its line feed (`answer-length` in the proofs of `lines`)
+abbrev pub more : ℕ
+more = 5
+
 -- what the lines of a list are answered with, "one for each, in order"
 unfoldable pub replies : List (List ℕ) → List Told
 replies ls = map replyTo ls

@@ -27,10 +27,10 @@ unfoldable pub hold : List ℕ → Tail
 hold t =
     cond (leb (length t) longest) (record { bytes = t ++ drop (length t) zeros; count = length t }) (record { bytes = zeros; count = overLong })
 
--- the line that a tail holds: as many of its bytes as the count says. The bytes of an over-long line are not kept, and 31 zeros stand for it: every line of more
--- than 30 bytes has the same answer.
+-- the line that a tail holds: as many of its bytes as the count says. The bytes of an over-long line are not kept, and zeros stand for it, one more than the longest
+-- line has bytes: every over-long line has the same answer.
 unfoldable pub carried : Tail → List ℕ
-carried t = take (t .count) (t .bytes ++ 0 ∷ [])
+carried t = cond (eqb (t .count) overLong) (replicate overLong 0) (take (t .count) (t .bytes))
 
 -- a tail that holds a line
 abbrev pub Sound : Tail → Type 0

@@ -3,4 +3,5 @@ pub mod Complete
 pub mod Tally
 pub mod Holding
 pub mod Feed
+pub mod Totals
 pub mod Series

@@ -2,16 +2,14 @@
 use Prim.Native.Nat.{ℕ, _+_, _≤_, _<_}
 use mathlib.Core.Path.{_≡_}
 use mathlib.Core.Bool.{Bool, true, false, cond}
-use mathlib.Core.List.{List, [], _∷_, _++_}
+use mathlib.Core.List.{List, [], _∷_, _++_, map}
 use lib.Dec.{eqb, ltb}
 use lib.ListN.{length, take, drop}
-use lib.Ieee.{binary32, ofBits, toBits}
-use Rattle.compound.specs.Answer.{word}
+use lib.Ieee.{binary32, ofBits}
 use Rattle.compound.specs.Route.{compound}
-use Rattle.answers.specs.Claims.{answer, Claims}
-use Rattle.lines.specs.Digits.{decimal, hex}
-use Rattle.lines.specs.Format.{idKey, readLine, number}
-use Rattle.lines.specs.Reply.{replyTo, written}
+use Rattle.answers.specs.Claims.{Claims}
+use Rattle.lines.specs.Format.{lineOf, readLine}
+use Rattle.lines.specs.Reply.{answered, replyTo}
 use Rattle.lines.specs.declared.Line.the-variants.{Pair}
 use Rattle.batch.specs.declared.State.{State}
 use Rattle.batch.specs.declared.Fed.{Fed}
@@ -78,23 +76,45 @@ due t p room =
     cond (ltb mostLines (feeds t + feeds p)) TooManyLines
     (cond (ltb room (length (answerLines (adds t p)))) NoRoom (Accepted (length (answerLines (adds t p)))))
 
--- "An answer line with `r=` has the D of its line, the answer for its x and y, and the route that these take", "as in 2": the answer is the definition's, and the
--- claims hold of it, the bound on whole exponents among them
+-- what an answered call takes of its piece
+unfoldable pub takes : Verdict → List ℕ → List ℕ
+takes (Accepted n) p = p
+takes Broken p = []
+takes TooManyLines p = []
+takes NoRoom p = []
+
+-- the same for a list of calls, of which it is told the pieces and the output lengths and nothing else; t are the accepted pieces before them
+unfoldable pub dueAll : List ℕ → List (List ℕ × ℕ) → List Verdict
+dueAll t [] = []
+dueAll t ((p, room) ∷ asks) = due t p room ∷ dueAll (t ++ takes (due t p room) p) asks
+
+-- the pieces and output lengths of a list of calls, and what these returned
+abbrev pub asked : List Call → List (List ℕ × ℕ)
+asked cs = map (λ (c : Call). (c .piece, length (c .out))) cs
+
+abbrev pub verdicts : List Call → List Verdict
+verdicts cs = map (λ (c : Call). c .returned .verdict) cs
+
+-- A line that says d, x and y. "An answer line with `r=` has the D of its line, the answer for its x and y, and the route that these take", "as in 2": the answer is the
+-- definition's, and the claims hold of it, the bound on whole exponents among them.
 pub record Answered (l : List ℕ) (d x y : ℕ) : Type 0 where
-  pub answer-line :
-      written (replyTo l)
-      ≡ idKey ++ decimal d ++ (32 ∷ 114 ∷ 61 ∷ []) ++ hex (toBits binary32 (answer (ofBits binary32 x) (ofBits binary32 y))) ++ (32 ∷ 118 ∷ 105 ∷ 97 ∷ 61 ∷ [])
-      ++ word (compound (ofBits binary32 x) (ofBits binary32 y) .via) ++ (10 ∷ [])
+  pub line-is : l ≡ lineOf d x y
+  pub told-is : replyTo l ≡ answered d (compound (ofBits binary32 x) (ofBits binary32 y))
   pub claims : Claims x y
 
 -- what one call in a list did, after the calls `before`
 pub record Obeyed (before : List Call) (c : Call) : Type 0 where
-  -- "Which calls were refused, and with what number, follows from the pieces and output lengths alone"
+  -- "Which calls were refused, and with what number"
   pub verdict-due : c .returned .verdict ≡ due (accepted before) (c .piece) (length (c .out))
+  pub number-due :
+      Feed.number (c .returned .verdict)
+      ≡ cond (ltb mostLines (feeds (accepted before) + feeds (c .piece))) 6 (cond (ltb (length (c .out)) (length (answerLines (adds (accepted before) (c .piece))))) 7 0)
   -- "In such a list 5 never comes."
   pub never-five : c .returned .verdict ≡ Broken → ⊥
   -- demand 1: "with state and lent bytes untouched"
   pub refused-leaves : isAccepted c ≡ false → (c .returned .state ≡ stateOf fresh before) × (c .out-after ≡ c .out)
+  -- the answer lines of the lines that it adds; "A refused one wrote none."
+  pub wrote-is : wrote c ≡ cond (isAccepted c) (answerLines (adds (accepted before) (c .piece))) []
   -- "the bytes it wrote are that many from the front of its output"; "those after them keep their values"
   pub wrote-said : length (wrote c) ≡ said (c .returned .verdict)
   pub rest-kept : c .out-after ≡ wrote c ++ drop (said (c .returned .verdict)) (c .out)
@@ -109,6 +129,8 @@ pub record Served (cs : List Call) : Type 0 where
   pub tallies-counted : stateOf fresh cs .tallies ≡ counts (replies (lines (accepted cs)))
   -- "The unfinished tail is held, or marked if over-long."
   pub tail-held : stateOf fresh cs .tail ≡ hold (rest (accepted cs))
+  -- "Which calls were refused, and with what number, follows from the pieces and output lengths alone"
+  pub verdicts-due : verdicts cs ≡ dueAll [] (asked cs)
   -- of each call, wherever it stands in the list
   pub each-call : (before : List Call) (c : Call) (later : List Call) → cs ≡ before ++ c ∷ later → Obeyed before c
   -- "Each line not bad was answered as in 2. Where in such a line y is whole, [..] the answer is at least the nearest f32 to E × (1 - 2^-47) and at most [..]". Here it
@@ -118,6 +140,10 @@ pub record Served (cs : List Call) : Type 0 where
 -- "This holds for every list of feed calls from a fresh state, refused ones among them, each given the state that the one before returned or left."
 unfoldable pub Always : (State → List ℕ → List ℕ → Fed → List ℕ → Type 0) → Type 0
 Always R = (cs : List Call) → Calls R fresh cs → Served cs
+
+-- It is said of no empty set: every list of pieces and output spaces has its list of calls.
+unfoldable pub Possible : (State → List ℕ → List ℕ → Fed → List ℕ → Type 0) → Type 0
+Possible R = (given : List (List ℕ × List ℕ)) → (cs : List Call) × ((map (λ (c : Call). (c .piece, c .out)) cs ≡ given) × Calls R fresh cs)
 
 -- An input fed in pieces from a fresh state, one after another, until one is refused: where none is, the state, the number of bytes written and the output are those of
 -- feeding it whole, wherever it was cut.

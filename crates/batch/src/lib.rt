@@ -9,23 +9,31 @@ mod measure;
 mod pieces;
 mod scan;
 mod tally;
+mod totals;
 
 use crate::answer::take_piece;
 use crate::broken::is_broken;
 use crate::measure::is_short;
 use crate::measure::too_many;
 use lines::LONGEST;
-pub use pieces::feed_in_pieces;
+pub use totals::write_totals;
 ghost use mathlib.Core.Path.{_≡_};
-ghost use Rattle.batch.specs.Feed.{Did, closed};
+ghost use Rattle.batch.specs.Feed.{Did, number, closed, closeNumber};
 ghost use Rattle.batch.specs.Holding as spec;
-ghost use Rattle.batch.specs.Series.{Always};
+ghost use Rattle.batch.specs.Series.{Always, Possible};
 
 // The count that marks an over-long line.
 pub const OVER_LONG: u32 = LONGEST as u32 + 1;
 
 // The most lines that are counted.
 pub const MOST_LINES: u32 = 0xffff_ffff;
+
+// An answer line is at most so many bytes longer than its line, each with its line feed.
+pub const MORE: usize = 5;
+
+// Room for the totals and the end's line: 42 bytes of words and seven numbers, `end=` and a number, two
+// line feeds. A number has at most ten digits.
+pub const TOTALS: usize = 48 + 8 * 10;
 
 // The unfinished line: its bytes, zeros past their count, or zeros alone and the mark.
 pub struct Tail {
@@ -117,6 +125,18 @@ pub fn feed(state: State, piece: &[u8], out: &mut [u8]) -> Fed
     take_piece(state, piece, out)
 }
 
+// The number of a feed's answer: 5 to 7 for a refusal, 0 for an accepted feed.
+pub fn feed_number(verdict: Verdict) -> u32
+    ensures { λ r. ⌜ r ≡ number verdict ⌝ }
+{
+    match verdict {
+        Verdict::Accepted(_) => 0,
+        Verdict::Broken => 5,
+        Verdict::TooManyLines => 6,
+        Verdict::NoRoom => 7,
+    }
+}
+
 // Whether the input may end here. The state stays as it is.
 pub fn close(state: State) -> Closed
     ensures { λ r. ⌜ r ≡ closed state ⌝ }
@@ -132,8 +152,20 @@ pub fn close(state: State) -> Closed
     }
 }
 
+// The number of a close's answer: 5 or 8 for a refusal, 0 for an accepted close.
+pub fn close_number(closed: Closed) -> u32
+    ensures { λ r. ⌜ r ≡ closeNumber closed ⌝ }
+{
+    match closed {
+        Closed::Whole => 0,
+        Closed::BrokenState => 5,
+        Closed::Unfinished => 8,
+    }
+}
+
 // Demand 3: what every list of feed calls from a fresh state comes to. There is nothing to run: the
 // contract is the theorem, and it speaks of calls that do what `feed` says of itself.
 pub fn every_series()
     ensures { λ r. ⌜ Always Did ⌝ }
+    ensures { λ r. ⌜ Possible Did ⌝ }
 {}

@@ -1,19 +1,18 @@
 // Whether the answer lines of a piece have room.
+use crate::MORE;
 use crate::MOST_LINES;
-use crate::OVER_LONG;
 use crate::Tail;
 use crate::held::extended;
 use crate::held::reply_to_tail;
 use crate::scan::line_end;
 use crate::scan::line_feeds;
 ghost use mathlib.Core.Path.{_≡_};
-ghost use mathlib.Core.Bool.{true};
 ghost use Prim.Native.Nat.{_+_, _*_, _≤_};
 ghost use lib.Dec.{ltb, leb};
 ghost use lib.ListN.{length, drop};
 ghost use Rattle.batch.specs.Complete.{linesFrom, lines as Complete·lines, feeds};
-ghost use Rattle.batch.specs.Holding.{carried, overLong, Sound};
-ghost use Rattle.batch.specs.Feed.{answerLines, mostLines};
+ghost use Rattle.batch.specs.Holding.{carried, Sound};
+ghost use Rattle.batch.specs.Feed.{answerLines, more, mostLines};
 
 // Whether the lines so far and the line feeds of a piece are more than can be counted. The line feeds
 // are looked for only where the piece has enough bytes for that.
@@ -27,37 +26,37 @@ pub(crate) fn too_many(lines: u32, piece: &[u8]) -> bool
     line_feeds(piece) > left
 }
 
-// Whether the answer lines of a piece are longer than `room`. They are worked out only where `room`
-// is shorter than any answers to this piece could be.
+// Whether the answer lines of a piece are longer than `room`. They are worked out only where `room` is
+// shorter than the longest answers that a line held and a piece of so many bytes and line feeds could
+// have.
 pub(crate) fn is_short(tail: Tail, piece: &[u8], room: usize) -> bool
     requires { ⌜ Sound tail ⌝ }
     requires { ⌜ feeds (now piece) ≤ mostLines ⌝ }
     ensures { λ r. ⌜ r ≡ ltb room (length (answerLines (linesFrom (carried tail) (now (piece .entry))))) ⌝ }
 {
-    if has_room(piece, room) {
+    if has_room(tail.count as usize, piece, room) {
         return false;
     }
     !fits(tail, piece, room)
 }
 
-// Whether `room` holds the answers to this piece, whatever they are: an answer line is at most six
-// bytes longer than its line. The line feeds are counted only where a line feed at every byte would be
-// too much.
-fn has_room(piece: &[u8], room: usize) -> bool
+// Whether `room` holds the answers to a line with `held` bytes and this piece, whatever they are. The
+// line feeds are counted only where a line feed at every byte would be too much.
+fn has_room(held: usize, piece: &[u8], room: usize) -> bool
     requires { ⌜ feeds (now piece) ≤ mostLines ⌝ }
-    ensures { λ r. ⌜ (r ≡ true → overLong + length (now (piece .entry)) + 5 * feeds (now (piece .entry)) ≤ room) ⌝ }
+    ensures { λ r. ⌜ r ≡ leb (held + length (now (piece .entry)) + more * feeds (now (piece .entry))) room ⌝ }
 {
-    let most = OVER_LONG as usize;
-    if room < most {
+    if room < held {
         return false;
     }
-    if piece.len() <= (room - most) / 6 {
+    let left = room - held;
+    if piece.len() <= left / (MORE + 1) {
         return true;
     }
-    if room - most < piece.len() {
+    if left < piece.len() {
         return false;
     }
-    5 * line_feeds(piece) <= room - most - piece.len()
+    MORE * line_feeds(piece) <= left - piece.len()
 }
 
 // Whether the answer lines of a piece fit into `room`.

@@ -1,4 +1,5 @@
-// A whole input, fed in pieces: a caller of `feed` whose contract follows from demand 3.
+// A whole input, fed in pieces: a caller of `feed` whose contract follows from demand 3. Nothing here
+// needs it; it is proved to show that demand 3 is enough for a caller.
 use crate::Fed;
 use crate::Verdict;
 use crate::feed;
@@ -9,7 +10,7 @@ ghost use Rattle.batch.specs.Series.{InPieces};
 // Feeds an input from a fresh state, in pieces of at most `size` bytes (0 counts as 1), and writes the
 // answer lines one after another to the front of `out`. It ends with the first piece that is refused;
 // if none is, all is as if the input had been fed whole, wherever it was cut.
-pub fn feed_in_pieces(input: &[u8], size: usize, out: &mut [u8]) -> Fed
+pub(crate) fn feed_in_pieces(input: &[u8], size: usize, out: &mut [u8]) -> Fed
     ensures { λ r. ⌜ InPieces (now (input .entry)) (now (out .entry)) r (now (out .exit)) ⌝ }
 {
     let mut state = fresh();

@@ -16,7 +16,7 @@ abbrev μ-loop : tie.MeasureT-loop
 μ-loop s from i₀ i = length s - i
 
 loop-holds : tie.Need-loop-holds Inv-loop μ-loop
-loop-holds c = (c .pre, refl)
+loop-holds c = (c .near-feed .ensures .0, sym (c .near-feed .ensures .1))
 
 shared-slice-read-if1 : tie.Need-shared-slice-read-if1 Inv-loop μ-loop
 shared-slice-read-if1 c = search needs
@@ -47,4 +47,4 @@ returns-2 c = none _ _ _ (c .before .loop .inv .1) (ap lineEnd (drop-of-length-l
     none k i e h g = omega (arith, h, g)
 
 pub line-end-spec : {M : Type 1} → statement M
-line-end-spec = tie.close (tie.spec Inv-loop μ-loop loop-holds shared-slice-read-if1 returns add-i loop-less loop-again returns-2)
+line-end-spec = tie.close (tie.spec Inv-loop μ-loop (λ c κs. search needs) loop-holds shared-slice-read-if1 returns add-i loop-less loop-again returns-2)
