@@ -7,3 +7,4 @@ pub mod Unbroken
 pub mod Carrying
 pub mod EverySeries
 pub mod InPieces
+pub mod Room

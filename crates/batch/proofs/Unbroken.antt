@@ -52,7 +52,7 @@ drop-zeros zero m = rw sub-zero
 drop-zeros (suc n) zero = rw zero-sub
 drop-zeros (suc n) (suc m) = rw suc-sub-suc (drop-zeros n m)
 
--- of a state that is not broken, whose tail has its 30 places
+-- of a state that is not broken, whose tail has its places
 module _ (s : State) (places : length (s .tail .bytes) ≡ longest) (h : broken s ≡ false) where
   -- the four causes are none
   tests : None (ltb overLong (s .tail .count)) (ltb 0 (feeds (s .tail .bytes))) (not (all (λ b. eqb b 0) (drop (unused (s .tail)) (s .tail .bytes)))) (not (eqb (total (s .tallies)) (s .lines)))

@@ -1,4 +1,4 @@
-// Whether a state is one that a series of feeds can leave.
+// Whether a state is broken: cause 5.
 use crate::OVER_LONG;
 use crate::State;
 use crate::Tail;
@@ -12,7 +12,7 @@ ghost use Rattle.lines.specs.Bytes.{all};
 ghost use Rattle.batch.specs.Holding.{broken};
 ghost use Rattle.batch.specs.Holding.{unused as Holding·unused};
 
-// Whether a state is broken.
+// Whether a state is broken: the four tests of its row, in their order.
 pub(crate) fn is_broken(state: State) -> bool
     ensures { λ r. ⌜ r ≡ broken state ⌝ }
 {

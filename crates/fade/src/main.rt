@@ -3,29 +3,28 @@
 // takes no more memory for a longer input. Where it cannot read or write, it says so on standard
 // error and prints no totals.
 use batch::Closed;
+use batch::MORE;
+use batch::OVER_LONG;
 use batch::State;
+use batch::TOTALS;
 use batch::Verdict;
 use libc::EINTR;
 use libc::STDERR_FILENO;
 use libc::STDIN_FILENO;
 use libc::STDOUT_FILENO;
 ghost use mathlib.Core.Path.{_≡_};
-ghost use Prim.Native.Nat.{ℕ, _+_, _≤_};
+ghost use Prim.Native.Nat.{ℕ, _≤_};
 ghost use lib.ListN.{length};
-ghost use Rattle.io.specs.Counts.{Counts};
 
 // The most bytes that are read at once.
 const PIECE: usize = 8192;
 
 // Room for the answers to any piece: they have at most as many bytes as the tail and the piece, and
-// five more for each line feed (`answers-length` of crates/batch/proofs/Replied.antt).
-const ANSWERS: usize = 31 + PIECE + 5 * PIECE;
+// some more for each line feed (`answers-length` of crates/batch/proofs/Replied.antt).
+const ANSWERS: usize = OVER_LONG as usize + PIECE + MORE * PIECE;
 
 // The most reads: no run comes to so many.
 const READS: u64 = 0xffff_ffff_ffff_ffff;
-
-// Room for the totals: 48 bytes of words and eight numbers of at most ten digits.
-const TOTALS: usize = 48 + 8 * 10;
 
 // What comes after a read: the next, or the totals with the number of the end, 0 if there is none,
 // or nothing, after a failure that has been told.
@@ -41,7 +40,8 @@ struct Turn {
     next: Next,
 }
 
-// Tells of a failure of our own, which no input brings about.
+// Tells of a failure of our own. No input brings it about: 5 never comes in a series of feeds (demand
+// 3), and for 7 the output would have to be shorter than ANSWERS.
 fn fault() -> Next {
     io::write_all(STDERR_FILENO, b"fade: internal failure; no totals\n");
     Next::Nothing
@@ -61,7 +61,7 @@ fn print(text: &[u8], next: Next) -> Next {
     if io::write_all(STDOUT_FILENO, text) {
         return next;
     }
-    os::fail(b"fade: standard output cannot be written; no totals");
+    os::fail(b"fade: standard output cannot be written; it is not whole");
     Next::Nothing
 }
 
@@ -71,7 +71,7 @@ fn print_answers(verdict: Verdict, out: &[u8]) -> Next
 {
     match verdict {
         Verdict::Accepted(n) => print(&out[..n], Next::Read),
-        Verdict::TooManyLines => Next::Totals(6),
+        Verdict::TooManyLines => Next::Totals(batch::feed_number(verdict)),
         Verdict::Broken => fault(),
         Verdict::NoRoom => fault(),
     }
@@ -81,8 +81,8 @@ fn print_answers(verdict: Verdict, out: &[u8]) -> Next
 fn at_end(state: State) -> Next {
     let closed = batch::close(state);
     match closed {
-        Closed::Whole => Next::Totals(0),
-        Closed::Unfinished => Next::Totals(8),
+        Closed::Whole => Next::Totals(batch::close_number(closed)),
+        Closed::Unfinished => Next::Totals(batch::close_number(closed)),
         Closed::BrokenState => fault(),
     }
 }
@@ -121,43 +121,11 @@ fn answer_input(piece: &mut [u8], out: &mut [u8]) -> Turn {
     Turn { state, next }
 }
 
-// Puts text and a number after it at the place `at`, and answers the place after them.
-fn put_total(text: &[u8], n: u32, out: &mut [u8; TOTALS], at: usize) -> usize
-    requires { ⌜ at + length (now text) + 10 ≤ 128 ⌝ }
-    ensures { λ r. ⌜ r ≤ at + length (now (text .entry)) + 10 ⌝ }
-{
-    let mut digits = [0u8; 20];
-    let k = io::decimal(n as u64, &mut digits);
-    let place = lines::put_bytes(text, out, at);
-    lines::put_bytes(&digits[..k], out, place)
-}
-
-// Puts the line feed of the totals, and the line of the end's number if there is one, at the place
-// `at`, and answers the place after them.
-fn put_end(end: u32, out: &mut [u8; TOTALS], at: usize) -> usize
-    requires { ⌜ at + 16 ≤ 128 ⌝ }
-    ensures { λ r. ⌜ Counts r (now (out .exit)) ⌝ }
-{
-    if end == 0 {
-        return lines::put_bytes(b"\n", out, at);
-    }
-    let place = put_total(b"\nend=", end, out, at);
-    lines::put_bytes(b"\n", out, place)
-}
-
 // Prints the totals, and the end's number if there is one.
 fn print_totals(state: State, end: u32) {
-    let t = state.tallies;
     let mut out = [0u8; TOTALS];
-    let mut at = put_total(b"lines=", state.lines, &mut out, 0);
-    at = put_total(b" rule=", t.rule, &mut out, at);
-    at = put_total(b" whole=", t.whole, &mut out, at);
-    at = put_total(b" edge=", t.edge, &mut out, at);
-    at = put_total(b" fast=", t.fast, &mut out, at);
-    at = put_total(b" slow=", t.slow, &mut out, at);
-    at = put_total(b" bad=", t.bad, &mut out, at);
-    at = put_end(end, &mut out, at);
-    print(&out[..at], Next::Nothing);
+    let n = batch::write_totals(state, end, &mut out);
+    print(&out[..n], Next::Nothing);
 }
 
 fn main() {

@@ -10,5 +10,6 @@ slice-aggregate-print c = sym (length-take-le _ _ (c .before .before .before .be
 
 pub print-answers-spec : {M : Type 1} → statement M
 print-answers-spec =
-    tie.close (tie.spec (λ c. search needs) slice-aggregate-print (λ c κs. search needs) (λ c. search needs) (λ c. search needs)
-    (λ c κs. search needs) (λ c. search needs) (λ c κs. search needs) (λ c. search needs) (λ c. search needs) (λ c. search needs) (λ c. search needs))
+    tie.close
+    (tie.spec (λ c. search needs) slice-aggregate-print (λ c κs. search needs) (λ c. search needs) (λ c κs. search needs) (λ c. search needs) (λ c κs. search needs)
+    (λ c. search needs) (λ c κs. search needs) (λ c. search needs) (λ c. search needs) (λ c. search needs) (λ c. search needs))

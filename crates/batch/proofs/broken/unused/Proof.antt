@@ -2,17 +2,17 @@
 use borrow.Author.Needs.{needs}
 use mathlib.Core.Path.{sym}
 use borrow.Author.Tests.{eq-eqb, ne-eqb}
-use Rattle.batch.specs.Holding.{unused}
+use Rattle.batch.specs.Holding.{overLong, unused}
 use Rattle.batch.proofs.broken.unused.Statement.{statement}
 use Rattle.batch.proofs.broken.unused.Tie as tie
 
 returns : tie.Need-returns
 unfolding unused
-returns c = rw (eq-eqb _ 31 (c .if1 .taken))
+returns c = rw (eq-eqb _ overLong (c .if1 .taken))
 
 returns-2 : tie.Need-returns-2
 unfolding unused
-returns-2 c = rw (ne-eqb _ 31 (c .before .if1 .left))
+returns-2 c = rw (ne-eqb _ overLong (c .before .if1 .left))
 
 pub unused-spec : {M : Type 1} → statement M
 unused-spec = tie.close (tie.spec (λ c. search needs) returns returns-2)

@@ -6,6 +6,7 @@ use mathlib.Core.Path.{_≡_, ap, _∙_}
 use mathlib.Core.List.{List, _++_}
 use lib.ListN.{length}
 use Rattle.lines.specs.Bytes.{put}
+use Rattle.lines.specs.Format.{longest}
 use Rattle.batch.specs.declared.Tail.{Tail}
 use Rattle.batch.specs.Holding.{hold, carried, Sound}
 use Rattle.batch.proofs.Holds.{more-long, more-over, more-short, held-places}
@@ -13,7 +14,7 @@ use Rattle.batch.proofs.held.extended.Statement.{statement}
 use Rattle.batch.proofs.held.extended.Tie as tie
 
 -- what `put_bytes` makes of the tail
-longer : (t : Tail) → Sound t → (part : List ℕ) → t .count ≤ 30 → length part ≤ 30 - t .count → (b : List ℕ) (n : ℕ) → b ≡ put (t .bytes) (t .count) part → n ≡ t .count + length part
+longer : (t : Tail) → Sound t → (part : List ℕ) → t .count ≤ longest → length part ≤ longest - t .count → (b : List ℕ) (n : ℕ) → b ≡ put (t .bytes) (t .count) part → n ≡ t .count + length part
     → record { bytes = b; count = n } ≡ hold (carried t ++ part)
 longer t s part h g b n e f =
     ap (λ (k : List ℕ). record { bytes = k; count = n }) e
@@ -26,14 +27,14 @@ returns c = more-long _ (c .before .before .before .pre) _ (c .if1 .taken)
 returns-2 : tie.Need-returns-2
 returns-2 c = more-over _ (c .before .before .before .before .pre) _ (c .before .if1 .left) (over _ _ (c .before .if1 .left) (c .if2 .taken))
   where
-    over : (n k : ℕ) → n ≤ 30 → 30 - n < k → 30 < n + k
+    over : (n k : ℕ) → n ≤ longest → longest - n < k → longest < n + k
     over n k h g = omega arith
 
 put-bytes-requires : tie.Need-put-bytes-requires
 put-bytes-requires c κs =
     within _ _ _ (c .before .before .before .if1 .left) (c .before .before .if2 .left) (held-places _ (c .before .before .before .before .before .before .pre) (c .before .before .before .if1 .left))
   where
-    within : (n k m : ℕ) → n ≤ 30 → k ≤ 30 - n → m ≡ 30 → n + k ≤ m
+    within : (n k m : ℕ) → n ≤ longest → k ≤ longest - n → m ≡ longest → n + k ≤ m
     within n k m h g e = omega arith
 
 returns-3 : tie.Need-returns-3

@@ -4,6 +4,7 @@ use Prim.Native.Nat.{ℕ, _+_, _-_, _≤_, _<_}
 use native.Mathlib.Omega.{arith}
 use mathlib.Core.Path.{_≡_, sym, ap, _∙_}
 use lib.ListN.{length}
+use Rattle.lines.specs.Format.{longest}
 use Rattle.lines.specs.Reply.{told, replyTo}
 use Rattle.lines.proofs.Lengths.{over-long}
 use Rattle.batch.proofs.Holds.{held-count, held-taken, held-places, held-long}
@@ -17,7 +18,7 @@ returns c = sym (over-long _ (held-long _ (c .before .before .pre) (c .if1 .take
 array-share-prefix-bytes : tie.Need-array-share-prefix-bytes
 array-share-prefix-bytes c = within _ _ (c .before .if1 .left) (held-places _ (c .before .before .before .pre) (c .before .if1 .left))
   where
-    within : (n m : ℕ) → n ≤ 30 → m ≡ 30 → n ≤ m
+    within : (n m : ℕ) → n ≤ longest → m ≡ longest → n ≤ m
     within n m h e = omega arith
 
 slice-aggregate-reply-to : tie.Need-slice-aggregate-reply-to

@@ -4,41 +4,15 @@ use Prim.Native.Nat.{ℕ, _+_, _≤_}
 use native.Mathlib.Nat.{zero-add}
 use native.Mathlib.Omega.{arith}
 use mathlib.Core.Path.{_≡_, _∙_}
-use mathlib.Core.Bool.{Bool, true, false, cond}
-use mathlib.Core.List.{List, [], _∷_, _++_}
+use mathlib.Core.List.{List, _++_}
 use denote.Ref.{now}
-use lib.Dec.{eqb}
-use lib.ListN.{length, length-append}
-use Rattle.lines.proofs.Numerals.{length-decimal}
-use Rattle.lines.proofs.Lengths.{places-most}
+use lib.ListN.{length}
 use Rattle.lines.proofs.Wrote.{Wrote, first-part, room, then}
 use Rattle.batch.specs.declared.State.{State}
-use Rattle.batch.specs.Totals.{counted, firstTotals, middleTotals, lastTotals, totals, endLine}
+use Rattle.batch.specs.Totals.{firstTotals, middleTotals, lastTotals, totals, endLine}
+use Rattle.batch.proofs.Room.{totals-most}
 use Rattle.batch.proofs.totals.write_totals.Statement.{statement}
 use Rattle.batch.proofs.totals.write_totals.Tie as tie
-
--- the parts are short: a number has at most ten digits
-first-most : (lines rule whole : ℕ) → length (firstTotals lines rule whole) ≤ 49
-unfolding firstTotals
-first-most lines rule whole =
-    simp length-append
-    (omega (arith, length-decimal lines, places-most 9 lines, length-decimal rule, places-most 9 rule, length-decimal whole, places-most 9 whole))
-
-middle-most : (edge fast : ℕ) → length (middleTotals edge fast) ≤ 32
-unfolding middleTotals
-middle-most edge fast = simp length-append (omega (arith, length-decimal edge, places-most 9 edge, length-decimal fast, places-most 9 fast))
-
-last-most : (slow bad : ℕ) → length (lastTotals slow bad) ≤ 32
-unfolding lastTotals
-last-most slow bad = simp length-append (omega (arith, length-decimal slow, places-most 9 slow, length-decimal bad, places-most 9 bad))
-
-end-most : (n : ℕ) → length (endLine n) ≤ 15
-unfolding endLine
-end-most n = by (eqb n 0)
-  where
-    by : (t : Bool) → length (cond t [] (counted (101 ∷ 110 ∷ 100 ∷ 61 ∷ []) n ++ (10 ∷ []))) ≤ 15
-    by true = omega arith
-    by false = simp length-append (omega (arith, length-decimal n, places-most 9 n))
 
 -- the parts of a state's totals
 abbrev first : State → List ℕ
@@ -53,9 +27,8 @@ last s = lastTotals (s .tallies .slow) (s .tallies .bad)
 -- all of it has room, and so have its first parts
 module _ (s : State) (end n : ℕ) (e : n ≡ 128) where
   four-fit : 0 + length (first s ++ middle s ++ last s ++ endLine end) ≤ n
-  four-fit =
-      simp length-append
-      (omega (arith, first-most (s .lines) (s .tallies .rule) (s .tallies .whole), middle-most (s .tallies .edge) (s .tallies .fast), last-most (s .tallies .slow) (s .tallies .bad), end-most end))
+  unfolding totals
+  four-fit = let h : length (first s ++ middle s ++ last s ++ endLine end) ≤ 128 = totals-most s end in omega arith
 
   three-fit : 0 + length (first s ++ middle s ++ last s) ≤ n
   three-fit = first-part 0 n (first s ++ middle s ++ last s) (endLine end) four-fit
