@@ -1,7 +1,7 @@
 // Batches for fade, the same each time. The large one goes with what fade must print for it: it has
 // every route, every refusal in many ways, lines about as long as the longest, and pieces of the
 // input that end in odd places of a line. The small one is for cutting it at every place. Others
-// are for measuring the time.
+// are for the README and for measuring the time.
 
 use crate::batch::{self, LONGEST};
 use crate::bench::fade_pairs;
@@ -93,6 +93,15 @@ const AT_ENDS: [(&[u8], usize); 5] = [
     (b"id=10 x=bc23d70a y=447a0000", 12),
 ];
 
+// The batch of the README: three cells with their loss per cycle and number of cycles, and a line
+// with a wrong letter.
+const README: &[u8] = b"\
+id=1 x=b951b717 y=43fa0000
+id=2 x=ba03126f y=453b8000
+id=3 x=bc23d70a y=41200000
+id=4 x=BA03126F y=453b8000
+";
+
 // The small batch: a line of every route and of every refusal, a longest and an over-long one, an
 // empty one, a carriage return and a NUL; and an unfinished tail.
 const SMALL: &[u8] = b"\
@@ -146,7 +155,7 @@ impl Batch {
 // The large batch.
 fn large() -> Vec<u8> {
     let mut r = Random::new(0);
-    let mut batch = Batch { bytes: Vec::new(), at_ends: AT_ENDS.into_iter() };
+    let mut batch = Batch { bytes: README.to_vec(), at_ends: AT_ENDS.into_iter() };
     batch.add(b"id=7 x=3f000000 y=40000000");
     batch.add(b"id=07 x=3f000000 y=40000000");
     PAIRS.into_iter().enumerate().for_each(|(id, row)| batch.add(&line(id as u16, row.0)));
@@ -268,7 +277,7 @@ fn other_byte(r: &mut Random) -> u8 {
 }
 
 // The files: the large batch, what fade prints for it, and the small batch.
-pub fn files() -> [File; 3] {
+pub fn files() -> [File; 5] {
     let large = large();
     assert_varied(&large, 40);
     assert_varied(SMALL, 1);
@@ -277,6 +286,8 @@ pub fn files() -> [File; 3] {
         ("crates/fade/stdin", large),
         ("crates/fade/stdout", printed),
         ("crates/cuts/stdin", SMALL.to_vec()),
+        ("samples/cells.txt", README.to_vec()),
+        ("samples/cells.out", batch::printed(README)),
     ]
 }
 
