@@ -20,76 +20,53 @@ unfolding told one
 by-route t next reply d a b via h g e n =
     sym (ap (λ (r : Reply). plus t (one (told r))) h ∙ ap (λ (k : Answer). plus t (byRoute (outcome k .via))) g ∙ ap (λ (v : Via). plus t (byRoute v)) e ∙ n)
 
-add-next : tie.Need-add-next
-unfolding total
-add-next c = search needs
-
 returns : tie.Need-returns
 unfolding outcome byRoute plus
 returns c =
     by-route _ _ _ _ _ _ rule (c .before .before .before .before .reply .given .1) (c .before .enum-told .given .1) refl (simp add-zero)
-
-add-next-2 : tie.Need-add-next-2
-unfolding total
-add-next-2 c = search needs
 
 returns-2 : tie.Need-returns-2
 unfolding outcome byRoute plus
 returns-2 c =
     by-route _ _ _ _ _ _ whole (c .before .before .before .before .reply .given .1) (c .before .enum-told2 .given .1) refl (simp add-zero)
 
-add-next-3 : tie.Need-add-next-3
-unfolding total
-add-next-3 c = search needs
-
 returns-3 : tie.Need-returns-3
 unfolding outcome byRoute plus
 returns-3 c =
     by-route _ _ _ _ _ _ edge (c .before .before .before .before .reply .given .1) (c .before .enum-told3 .given .1) refl (simp add-zero)
-
-add-next-4 : tie.Need-add-next-4
-unfolding total
-add-next-4 c = search needs
 
 returns-4 : tie.Need-returns-4
 unfolding outcome byRoute plus
 returns-4 c =
     by-route _ _ _ _ _ _ fast (c .before .before .before .before .reply .given .1) (c .before .enum-told4 .given .1) refl (simp add-zero)
 
-add-next-5 : tie.Need-add-next-5
-unfolding total
-add-next-5 c = search needs
-
 returns-5 : tie.Need-returns-5
 unfolding outcome byRoute plus
 returns-5 c =
     by-route _ _ _ _ _ _ slow (c .before .before .before .before .reply .given .1) (c .before .enum-told5 .given .1) refl (simp add-zero)
-
-add-next-6 : tie.Need-add-next-6
-unfolding total
-add-next-6 c = search needs
 
 returns-6 : tie.Need-returns-6
 unfolding told one plus
 returns-6 c = sym (ap (λ (r : Reply). plus (c .before .before .before .args .t) (one (told r))) (c .before .enum-told6 .given .1) ∙ simp add-zero)
 
 pub counted-spec : {M : Type 1} → statement M
+unfolding total
 counted-spec =
     tie.close
     (tie.spec
     (λ c. search needs)
     (λ c. search needs)
-    add-next
     (λ c. search needs)
-    add-next-2
     (λ c. search needs)
-    add-next-3
     (λ c. search needs)
-    add-next-4
     (λ c. search needs)
-    add-next-5
     (λ c. search needs)
-    add-next-6
+    (λ c. search needs)
+    (λ c. search needs)
+    (λ c. search needs)
+    (λ c. search needs)
+    (λ c. search needs)
+    (λ c. search needs)
     returns
     returns-2
     returns-3
