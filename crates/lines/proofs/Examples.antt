@@ -11,7 +11,7 @@ use Rattle.lines.specs.Digits.{glyph, digits, places, decimal, hex, isDe
 use Rattle.lines.specs.Format.{idDigits, isD, hasId, afterId, hexDigits, hasHex, hasX, afterX, hasY, readLine}
 use Rattle.lines.specs.Reply.{answered, answerTo, replyTo, answerPattern, ending, written}
 use Rattle.lines.specs.declared.Line.{Line}
-use Rattle.lines.specs.declared.Line.the-variants.{Pair, NoId}
+use Rattle.lines.specs.declared.Line.the-variants.{Pair, TooLong, NoId, NoX, NoY}
 
 -- `id=7 x=3f000000 y=40000000`
 abbrev pub seven : List ℕ
@@ -27,6 +27,20 @@ seven-read = refl
 pub leading-zero : readLine (105 ∷ 100 ∷ 61 ∷ 48 ∷ 55 ∷ 32 ∷ 120 ∷ 61 ∷ 51 ∷ 102 ∷ 48 ∷ 48 ∷ 48 ∷ 48 ∷ 48 ∷ 48 ∷ 32 ∷ 121 ∷ 61 ∷ 52 ∷ 48 ∷ 48 ∷ 48 ∷ 48 ∷ 48 ∷ 48 ∷ 48 ∷ []) ≡ NoId
 unfolding begins all leading isDecimal isHex digitValue valueFrom value idDigits isD hasId readLine
 leading-zero = refl
+
+-- "Lines are tried in the order 1 to 4": `id=7 x=3F000000 y=4000000` is refused for its x, and with a good x for its y
+pub x-first : readLine (105 ∷ 100 ∷ 61 ∷ 55 ∷ 32 ∷ 120 ∷ 61 ∷ 51 ∷ 70 ∷ 48 ∷ 48 ∷ 48 ∷ 48 ∷ 48 ∷ 48 ∷ 32 ∷ 121 ∷ 61 ∷ 52 ∷ 48 ∷ 48 ∷ 48 ∷ 48 ∷ 48 ∷ 48 ∷ []) ≡ NoX
+unfolding begins all leading isDecimal isHex digitValue valueFrom value idDigits isD hasId afterId hexDigits hasHex hasX afterX hasY readLine
+x-first = refl
+
+pub then-y : readLine (105 ∷ 100 ∷ 61 ∷ 55 ∷ 32 ∷ 120 ∷ 61 ∷ 51 ∷ 102 ∷ 48 ∷ 48 ∷ 48 ∷ 48 ∷ 48 ∷ 48 ∷ 32 ∷ 121 ∷ 61 ∷ 52 ∷ 48 ∷ 48 ∷ 48 ∷ 48 ∷ 48 ∷ 48 ∷ []) ≡ NoY
+unfolding begins all leading isDecimal isHex digitValue valueFrom value idDigits isD hasId afterId hexDigits hasHex hasX afterX hasY readLine
+then-y = refl
+
+-- and a line of 31 bytes is refused for that, whatever it says
+pub too-long : readLine (105 ∷ 100 ∷ 61 ∷ 54 ∷ 53 ∷ 53 ∷ 51 ∷ 53 ∷ 32 ∷ 120 ∷ 61 ∷ 51 ∷ 102 ∷ 56 ∷ 48 ∷ 48 ∷ 48 ∷ 48 ∷ 48 ∷ 32 ∷ 121 ∷ 61 ∷ 51 ∷ 102 ∷ 48 ∷ 48 ∷ 48 ∷ 48 ∷ 48 ∷ 48 ∷ 48 ∷ []) ≡ TooLong
+unfolding readLine
+too-long = refl
 
 -- "An empty line is 2"
 pub empty-line : readLine [] ≡ NoId

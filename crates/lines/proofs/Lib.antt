@@ -1,4 +1,5 @@
 -- Laws that belong to no one function: what the proofs of this crate, and of those above it, cite.
+pub mod Examples
 pub mod Put
 pub mod Wrote
 pub mod Numerals
@@ -7,4 +8,3 @@ pub mod Reading
 pub mod BothWays
 pub mod Lengths
 pub mod Patterns
-pub mod Examples
