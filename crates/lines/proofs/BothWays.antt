@@ -235,20 +235,17 @@ record Accepted (l : List ℕ) (d x y : ℕ) : Type 0 where
 never : _≡_ {A = ℕ} 0 1 → ⊥
 never z = omega arith
 
-only : (t i a b : Bool) (d x y d′ x′ y′ : ℕ) → cond t TooLong (cond (not i) NoId (cond (not a) NoX (cond (not b) NoY (Pair d x y)))) ≡ Pair d′ x′ y′
-    → (t ≡ false) × ((i ≡ true) × ((a ≡ true) × ((b ≡ true) × (Pair d x y ≡ Pair d′ x′ y′))))
-only true i a b d x y d′ x′ y′ e = absurd (let z : _≡_ {A = ℕ} 0 1 = cc in never z)
-only false false a b d x y d′ x′ y′ e = absurd (let z : _≡_ {A = ℕ} 0 1 = cc in never z)
-only false true false b d x y d′ x′ y′ e = absurd (let z : _≡_ {A = ℕ} 0 1 = cc in never z)
-only false true true false d x y d′ x′ y′ e = absurd (let z : _≡_ {A = ℕ} 0 1 = cc in never z)
-only false true true true d x y d′ x′ y′ e = (refl, (refl, (refl, (refl, e))))
-
 accepted : (l : List ℕ) (d x y : ℕ) → readLine l ≡ Pair d x y → Accepted l d x y
 unfolding readLine
-accepted l d x y e =
-    let o = only (ltb longest (length l)) (hasId l) (hasX (afterId l)) (hasY (afterX (afterId l))) _ _ _ d x y e in
-    let p = o .1 .1 .1 .1 in
-    record { short = o .0; id = o .1 .0; x-field = o .1 .1 .0; y-field = o .1 .1 .1 .0; d-is = cc; x-is = cc; y-is = cc }
+accepted l d x y e = by (ltb longest (length l)) (hasId l) (hasX (afterId l)) (hasY (afterX (afterId l))) refl refl refl refl
+  where
+    by : (t i a b : Bool) → ltb longest (length l) ≡ t → hasId l ≡ i → hasX (afterId l) ≡ a → hasY (afterX (afterId l)) ≡ b → Accepted l d x y
+    by true i a b p q r s = absurd (let f = simp p at e in let z : _≡_ {A = ℕ} 0 1 = cc in never z)
+    by false false a b p q r s = absurd (let f = simp (p, q) at e in let z : _≡_ {A = ℕ} 0 1 = cc in never z)
+    by false true false false p q r s = absurd (let f = simp (p, q, r, s) at e in let z : _≡_ {A = ℕ} 0 1 = cc in never z)
+    by false true false true p q r s = absurd (let f = simp (p, q, r, s) at e in let z : _≡_ {A = ℕ} 0 1 = cc in never z)
+    by false true true false p q r s = absurd (let f = simp (p, q, r, s) at e in let z : _≡_ {A = ℕ} 0 1 = cc in never z)
+    by false true true true p q r s = let f = simp (p, q, r, s) at e in record { short = p; id = q; x-field = r; y-field = s; d-is = cc; x-is = cc; y-is = cc }
 
 module _ (l : List ℕ) (d x y : ℕ) (a : Accepted l d x y) where
   x-tests : (hasHex xKey (afterId l) ≡ true) × (eqb (getD (afterId l) 10 0) space ≡ true)
