@@ -76,7 +76,7 @@ due t p room =
     cond (ltb mostLines (feeds t + feeds p)) TooManyLines
     (cond (ltb room (length (answerLines (adds t p)))) NoRoom (Accepted (length (answerLines (adds t p)))))
 
--- what an answered call takes of its piece
+-- what is taken of a piece, by what its call returns
 unfoldable pub takes : Verdict → List ℕ → List ℕ
 takes (Accepted n) p = p
 takes Broken p = []
