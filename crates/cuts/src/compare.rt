@@ -1,53 +1,29 @@
 // What a feed or a close came to, beside what is expected.
 use crate::MARK;
 use crate::expected::part;
-use batch::Closed;
 use batch::Fed;
 use batch::State;
+use batch::Tail;
 use batch::Tallies;
 use batch::Verdict;
 ghost use Prim.Native.Nat.{_≤_};
 ghost use lib.ListN.{length};
 
-// The first thing that differs.
+// What differs first: nothing; a feed's answer, its output, its state; a close's answer.
 pub enum Differs {
     Nothing,
-    Number,
-    Count,
-    Written,
-    After,
-    TailCount,
-    TailBytes,
-    Lines,
-    Tallies,
-}
-
-// The number of a feed's answer; 0 for an accepted one.
-fn feed_number(verdict: Verdict) -> u32 {
-    match verdict {
-        Verdict::Accepted(_) => 0,
-        Verdict::Broken => 5,
-        Verdict::TooManyLines => 6,
-        Verdict::NoRoom => 7,
-    }
-}
-
-// The number of a close's answer; 0 for an accepted one.
-fn close_number(closed: Closed) -> u32 {
-    match closed {
-        Closed::Whole => 0,
-        Closed::BrokenState => 5,
-        Closed::Unfinished => 8,
-    }
+    Answer,
+    Output,
+    State,
+    Closed,
 }
 
 // How many bytes a feed says that it wrote.
 pub(crate) fn wrote(verdict: Verdict) -> usize {
-    match verdict {
-        Verdict::Accepted(n) => n,
-        Verdict::Broken => 0,
-        Verdict::TooManyLines => 0,
-        Verdict::NoRoom => 0,
+    if let Verdict::Accepted(n) = verdict {
+        n
+    } else {
+        0
     }
 }
 
@@ -63,38 +39,38 @@ fn is_untouched(s: &[u8]) -> bool {
     true
 }
 
-// Whether all six tallies are the same.
-fn same_tallies(t: Tallies, u: Tallies) -> bool {
-    t.rule == u.rule
-        && t.whole == u.whole
-        && t.edge == u.edge
-        && t.fast == u.fast
-        && t.slow == u.slow
-        && t.bad == u.bad
+// Whether an output has a text at its front, and its other bytes are as they were.
+fn is_written(out: &[u8], text: &[u8]) -> bool
+    requires { ⌜ length (now text) ≤ length (now out) ⌝ }
+{
+    let n = text.len();
+    check::same(text, part(out, 0, n)) && is_untouched(part(out, n, out.len()))
 }
 
-// What a state differs in from another.
-fn state_differs(a: State, b: State) -> Differs {
-    let x = a.tail;
-    let y = b.tail;
-    if x.count != y.count {
-        return Differs::TailCount;
-    }
-    let xs = x.bytes;
-    let ys = y.bytes;
-    if !check::same(&xs, &ys) {
-        return Differs::TailBytes;
-    }
-    if a.lines != b.lines {
-        return Differs::Lines;
-    }
-    let t = a.tallies;
-    let u = b.tallies;
-    if same_tallies(t, u) {
-        Differs::Nothing
-    } else {
-        Differs::Tallies
-    }
+// Whether two tails are the same.
+fn same_tail(a: Tail, b: Tail) -> bool {
+    let x = a.bytes;
+    let y = b.bytes;
+    a.count == b.count && check::same(&x, &y)
+}
+
+// Whether all six tallies are the same.
+fn same_tallies(a: Tallies, b: Tallies) -> bool {
+    a.rule == b.rule
+        && a.whole == b.whole
+        && a.edge == b.edge
+        && a.fast == b.fast
+        && a.slow == b.slow
+        && a.bad == b.bad
+}
+
+// Whether two states are the same.
+fn same_state(a: State, b: State) -> bool {
+    let s = a.tail;
+    let t = b.tail;
+    let u = a.tallies;
+    let v = b.tallies;
+    a.lines == b.lines && same_tail(s, t) && same_tallies(u, v)
 }
 
 // What a feed's answer and its output differ in from a number, a state and the text written.
@@ -102,28 +78,24 @@ pub(crate) fn fed_differs(fed: Fed, out: &[u8], number: u32, state: State, text:
     requires { ⌜ length (now text) ≤ length (now out) ⌝ }
 {
     let verdict = fed.verdict;
-    if feed_number(verdict) != number {
-        return Differs::Number;
+    if batch::feed_number(verdict) != number || wrote(verdict) != text.len() {
+        return Differs::Answer;
     }
-    let n = text.len();
-    if wrote(verdict) != n {
-        return Differs::Count;
+    if !is_written(out, text) {
+        return Differs::Output;
     }
-    if !check::same(text, part(out, 0, n)) {
-        return Differs::Written;
+    if same_state(fed.state, state) {
+        Differs::Nothing
+    } else {
+        Differs::State
     }
-    if !is_untouched(part(out, n, out.len())) {
-        return Differs::After;
-    }
-    let after = fed.state;
-    state_differs(after, state)
 }
 
 // What a close's answer differs in from a number.
 pub(crate) fn close_differs(state: State, number: u32) -> Differs {
-    if close_number(batch::close(state)) == number {
+    if batch::close_number(batch::close(state)) == number {
         Differs::Nothing
     } else {
-        Differs::Number
+        Differs::Closed
     }
 }

@@ -1,15 +1,14 @@
 // The state that the reader must hold, told from the bytes that it has been fed and from their
 // answers as text.
 use crate::report::more;
+use batch::OVER_LONG;
 use batch::State;
 use batch::Tail;
 use batch::Tallies;
+use lines::LONGEST;
 ghost use mathlib.Core.Path.{_≡_};
 ghost use Prim.Native.Nat.{_-_, _≤_};
 ghost use lib.ListN.{length};
-
-// The bytes of a tail.
-const PLACES: usize = 30;
 
 // The bytes of s from one place to another.
 pub(crate) fn part(s: &[u8], from: usize, to: usize) -> &[u8]
@@ -48,80 +47,63 @@ pub(crate) fn lines_end(s: &[u8], n: u32) -> usize
     i
 }
 
-// The place after the last line feed.
-fn line_start(s: &[u8]) -> usize
-    ensures { λ r. ⌜ r ≤ length (now (s .entry)) ⌝ }
-{
-    let mut start = 0;
-    let mut i = 0;
-    while i < s.len() {
-        i += 1;
-        if s[i - 1] == b'\n' {
-            start = i;
-        }
-    }
-    start
-}
-
 // The tail that holds an unfinished line.
 fn held(line: &[u8]) -> Tail {
-    let mut bytes = [0u8; PLACES];
-    if line.len() > PLACES {
-        return Tail { bytes, count: 31 };
+    let mut bytes = [0u8; LONGEST];
+    if line.len() > LONGEST {
+        return Tail {
+            bytes,
+            count: OVER_LONG,
+        };
     }
-    let mut count = 0;
     let mut i = 0;
     while i < line.len() {
         bytes[i] = line[i];
-        count = more(count);
         i += 1;
     }
-    Tail { bytes, count }
-}
-
-// The tallies with one more, by the fourth letter from the end of the answer line: via=rule,
-// via=whole, via=edge, via=fast, via=slow, bad=N.
-fn counted(t: Tallies, letter: u8) -> Tallies {
-    let mut next = t;
-    match letter {
-        b'r' => next.rule = more(t.rule),
-        b'h' => next.whole = more(t.whole),
-        b'e' => next.edge = more(t.edge),
-        b'f' => next.fast = more(t.fast),
-        b's' => next.slow = more(t.slow),
-        _ => next.bad = more(t.bad),
+    Tail {
+        bytes,
+        count: line.len() as u32,
     }
-    next
 }
 
-// The tallies of answer lines.
-fn tallied(answers: &[u8]) -> Tallies {
-    let mut t = Tallies {
-        rule: 0,
-        whole: 0,
-        edge: 0,
-        fast: 0,
-        slow: 0,
-        bad: 0,
-    };
+// How many lines have this letter as the fourth from their end.
+fn endings(answers: &[u8], letter: u8) -> u32 {
+    let mut n = 0;
     let mut i = 4;
     while i < answers.len() {
-        if answers[i] == b'\n' {
-            t = counted(t, answers[i - 4]);
+        if answers[i] == b'\n' && answers[i - 4] == letter {
+            n = more(n);
         }
         i += 1;
     }
-    t
+    n
 }
 
-// The state after some bytes whose complete lines have these answers.
-pub(crate) fn told(input: &[u8], answers: &[u8]) -> State {
-    let start = line_start(input);
-    let tail = held(part(input, start, input.len()));
-    let tallies = tallied(answers);
+// The tallies of answer lines, which end in via=rule, via=whole, via=edge, via=fast, via=slow or are
+// bad=N.
+fn tallied(answers: &[u8]) -> Tallies {
+    Tallies {
+        rule: endings(answers, b'r'),
+        whole: endings(answers, b'h'),
+        edge: endings(answers, b'e'),
+        fast: endings(answers, b'f'),
+        slow: endings(answers, b's'),
+        bad: endings(answers, b'a'),
+    }
+}
+
+// The state after the first bytes of the batch.
+pub(crate) fn state_at(input: &[u8], answers: &[u8], place: usize) -> State
+    requires { ⌜ place ≤ length (now input) ⌝ }
+{
+    let first = part(input, 0, place);
+    let lines = feeds(first);
+    let tail = held(part(first, lines_end(first, lines), place));
+    let tallies = tallied(part(answers, 0, lines_end(answers, lines)));
     State {
         tail,
-        lines: feeds(input),
+        lines,
         tallies,
     }
 }

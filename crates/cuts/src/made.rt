@@ -1,23 +1,36 @@
 // States made by hand.
 use crate::ROOM;
-use crate::compare::close_differs;
-use crate::cut::feed_differs;
+use crate::expected::part;
 use crate::report::Seen;
 use crate::report::none_seen;
-use crate::report::note_close;
-use crate::report::note_feed;
+use crate::single::check_close;
+use crate::single::check_refused;
+use crate::single::check_taken;
 use batch::MOST_LINES;
+use batch::OVER_LONG;
 use batch::State;
 use batch::Tail;
 use batch::Tallies;
+use lines::LONGEST;
 ghost use Prim.Native.Nat.{_≤_, _<_};
-ghost use lib.ListN.{length};
+ghost use Rattle.lines.specs.Format.{longest};
+ghost use Rattle.batch.specs.Holding.{overLong};
+ghost use Rattle.cuts.specs.Limits.{room};
+
+// The last place of a tail.
+const LAST: usize = LONGEST - 1;
+
+// The count of a tail that is full.
+const FULL: u32 = LONGEST as u32;
+
+// The bytes of the shortest over-long line.
+const LONG: usize = OVER_LONG as usize;
 
 // A tail whose bytes are zero but for one.
 fn tail_with(count: u32, place: usize, byte: u8) -> Tail
-    requires { ⌜ place < 30 ⌝ }
+    requires { ⌜ place < longest ⌝ }
 {
-    let mut bytes = [0u8; 30];
+    let mut bytes = [0u8; LONGEST];
     bytes[place] = byte;
     Tail { bytes, count }
 }
@@ -25,7 +38,7 @@ fn tail_with(count: u32, place: usize, byte: u8) -> Tail
 // A tail of zeros.
 fn zeros(count: u32) -> Tail {
     Tail {
-        bytes: [0u8; 30],
+        bytes: [0u8; LONGEST],
         count,
     }
 }
@@ -56,122 +69,67 @@ fn all_bad(tail: Tail, lines: u32) -> State {
     made(tail, lines, tallies(0, 0, 0, 0, 0, lines))
 }
 
-// Feeds a piece that must be refused, to an output of `room` bytes.
-fn check_refused(
-    seen: Seen,
-    part: &[u8],
-    place: usize,
-    state: State,
-    piece: &[u8],
-    room: usize,
-    number: u32,
-) -> Seen
-    requires { ⌜ room ≤ 2048 ⌝ }
+// Feeds line feeds that must be refused.
+fn check_feeds(seen: Seen, state: State, n: usize, space: usize, number: u32) -> Seen
+    requires { ⌜ n ≤ 2 ⌝ }
+    requires { ⌜ space ≤ room ⌝ }
 {
-    note_feed(
-        seen,
-        part,
-        place,
-        b"made",
-        feed_differs(state, piece, room, number, state, b""),
-    )
-}
-
-// Feeds a piece that must be accepted, to an output of `room` bytes.
-fn check_taken(
-    seen: Seen,
-    place: usize,
-    state: State,
-    piece: &[u8],
-    room: usize,
-    after: State,
-    text: &[u8],
-) -> Seen
-    requires { ⌜ room ≤ 2048 ⌝ }
-    requires { ⌜ length (now text) ≤ 2048 ⌝ }
-{
-    note_feed(
-        seen,
-        b"most lines",
-        place,
-        b"made",
-        feed_differs(state, piece, room, 0, after, text),
-    )
-}
-
-// Closes a state.
-fn check_close(seen: Seen, part: &[u8], place: usize, state: State, number: u32) -> Seen {
-    note_close(seen, part, place, close_differs(state, number))
+    let piece = b"\n\n";
+    check_refused(seen, state, part(piece, 0, n), space, number)
 }
 
 // Feeds and closes a broken state: 5 comes before all else.
-fn check_state(seen: Seen, place: usize, state: State) -> Seen {
-    let line = check_refused(
-        seen,
-        b"broken state",
-        place,
-        state,
-        b"id=7 x=3f000000 y=40000000\n",
-        ROOM,
-        5,
-    );
-    let long = check_refused(line, b"broken state", place, state, b"\n", ROOM, 5);
-    let short = check_refused(long, b"broken state", place, state, b"\n", 5, 5);
-    let no_room = check_refused(short, b"broken state", place, state, b"\n", 0, 5);
-    let empty = check_refused(no_room, b"broken state", place, state, b"", ROOM, 5);
-    check_close(empty, b"broken state", place, state, 5)
+fn check_state(seen: Seen, state: State) -> Seen {
+    let line = b"id=7 x=3f000000 y=40000000\n";
+    let mut next = check_refused(seen, state, line, ROOM, 5);
+    next = check_feeds(next, state, 1, ROOM, 5);
+    next = check_feeds(next, state, 1, 5, 5);
+    next = check_feeds(next, state, 1, 0, 5);
+    next = check_feeds(next, state, 0, ROOM, 5);
+    check_close(next, state, 5)
 }
 
 // A broken tail, without lines and with as many as there can be.
-fn check_tail(seen: Seen, place: usize, tail: Tail) -> Seen {
-    check_state(
-        check_state(seen, place, all_bad(tail, 0)),
-        place,
-        all_bad(tail, MOST_LINES),
-    )
+fn check_tail(seen: Seen, tail: Tail) -> Seen {
+    let next = check_state(seen, all_bad(tail, 0));
+    check_state(next, all_bad(tail, MOST_LINES))
 }
 
 // Tallies that do not add up, with an empty tail and with an over-long line.
-fn check_sum(seen: Seen, place: usize, lines: u32, counts: Tallies) -> Seen {
-    check_state(
-        check_state(seen, place, made(zeros(0), lines, counts)),
-        place,
-        made(zeros(31), lines, counts),
-    )
+fn check_sum(seen: Seen, lines: u32, counts: Tallies) -> Seen {
+    let next = check_state(seen, made(zeros(0), lines, counts));
+    check_state(next, made(zeros(OVER_LONG), lines, counts))
 }
 
-// Tails that no feed leaves: a count over 31, a line feed, a byte past the count, a byte at 31.
+// Tails that no feed leaves: a count past the over-long mark, a line feed, a byte past the count, a
+// byte at the mark.
 fn check_tails(seen: Seen) -> Seen {
-    let mut next = check_tail(seen, 1, zeros(32));
-    next = check_tail(next, 2, zeros(0xffff_ffff));
-    next = check_tail(next, 3, tail_with(5, 2, 10));
-    next = check_tail(next, 4, tail_with(30, 29, 10));
-    next = check_tail(next, 5, tail_with(0, 29, 10));
-    next = check_tail(next, 6, tail_with(3, 3, 1));
-    next = check_tail(next, 7, tail_with(0, 0, 105));
-    next = check_tail(next, 8, tail_with(29, 29, 255));
-    next = check_tail(next, 9, tail_with(31, 0, 105));
-    check_tail(next, 10, tail_with(31, 29, 1))
+    let mut next = check_tail(seen, zeros(OVER_LONG + 1));
+    next = check_tail(next, zeros(0xffff_ffff));
+    next = check_tail(next, tail_with(5, 2, b'\n'));
+    next = check_tail(next, tail_with(FULL, LAST, b'\n'));
+    next = check_tail(next, tail_with(0, LAST, b'\n'));
+    next = check_tail(next, tail_with(3, 3, 1));
+    next = check_tail(next, tail_with(0, 0, b'i'));
+    next = check_tail(next, tail_with(FULL - 1, LAST, 255));
+    next = check_tail(next, tail_with(OVER_LONG, 0, b'i'));
+    check_tail(next, tail_with(OVER_LONG, LAST, 1))
 }
 
 // Tallies that do not add up to the lines: one too many in each place, one too few, none; and
 // twice tallies that come to the lines where 32 bits hold the sum.
 fn check_sums(seen: Seen) -> Seen {
-    let mut next = check_sum(seen, 11, 0, tallies(1, 0, 0, 0, 0, 0));
-    next = check_sum(next, 12, 0, tallies(0, 1, 0, 0, 0, 0));
-    next = check_sum(next, 13, 0, tallies(0, 0, 1, 0, 0, 0));
-    next = check_sum(next, 14, 0, tallies(0, 0, 0, 1, 0, 0));
-    next = check_sum(next, 15, 0, tallies(0, 0, 0, 0, 1, 0));
-    next = check_sum(next, 16, 0, tallies(0, 0, 0, 0, 0, 1));
-    next = check_sum(next, 17, 7, tallies(1, 1, 1, 1, 1, 1));
-    next = check_sum(next, 18, MOST_LINES, tallies(0, 0, 0, 0, 0, 0));
-    next = check_sum(next, 19, 0, tallies(MOST_LINES, 1, 0, 0, 0, 0));
-    check_sum(
-        next,
-        20,
-        MOST_LINES,
-        tallies(MOST_LINES, MOST_LINES, 1, 0, 0, 0),
-    )
+    let most = MOST_LINES;
+    let mut next = check_sum(seen, 0, tallies(1, 0, 0, 0, 0, 0));
+    next = check_sum(next, 0, tallies(0, 1, 0, 0, 0, 0));
+    next = check_sum(next, 0, tallies(0, 0, 1, 0, 0, 0));
+    next = check_sum(next, 0, tallies(0, 0, 0, 1, 0, 0));
+    next = check_sum(next, 0, tallies(0, 0, 0, 0, 1, 0));
+    next = check_sum(next, 0, tallies(0, 0, 0, 0, 0, 1));
+    next = check_sum(next, 7, tallies(1, 1, 1, 1, 1, 1));
+    next = check_sum(next, most, tallies(0, 0, 0, 0, 0, 0));
+    next = check_sum(next, 0, tallies(most, 1, 0, 0, 0, 0));
+    check_sum(next, most, tallies(most, most, 1, 0, 0, 0))
 }
 
 // Broken states.
@@ -179,60 +137,58 @@ pub(crate) fn check_broken() -> Seen {
     check_sums(check_tails(none_seen()))
 }
 
+// Feeds bytes of a line that must be held.
+fn check_held(seen: Seen, state: State, n: usize, space: usize, tail: Tail) -> Seen
+    requires { ⌜ n ≤ overLong ⌝ }
+    requires { ⌜ space ≤ room ⌝ }
+{
+    let piece = [b'0'; LONG];
+    let counts = state.tallies;
+    let after = made(tail, state.lines, counts);
+    check_taken(seen, state, part(&piece, 0, n), space, after, b"")
+}
+
 // A state with as many lines as there can be: no line feed is taken, and all else is.
-fn check_full(seen: Seen, state: State) -> Seen {
-    let kept = state.tallies;
-    let mut next = check_refused(seen, b"most lines", 1, state, b"\n", ROOM, 6);
-    next = check_refused(next, b"most lines", 2, state, b"\n", 0, 6);
-    next = check_refused(next, b"most lines", 3, state, b"i\n\n", ROOM, 6);
-    next = check_taken(next, 4, state, b"", 0, state, b"");
-    next = check_taken(
-        next,
-        5,
-        state,
-        b"i",
-        0,
-        made(tail_with(1, 0, b'i'), MOST_LINES, kept),
-        b"",
-    );
-    check_taken(
-        next,
-        6,
-        state,
-        b"0123456789012345678901234567890",
-        ROOM,
-        made(zeros(31), MOST_LINES, kept),
-        b"",
-    )
+fn check_full(seen: Seen) -> Seen {
+    let counts = tallies(1, 2, 3, 4, 5, MOST_LINES - 15);
+    let state = made(zeros(0), MOST_LINES, counts);
+    let mut next = check_feeds(seen, state, 1, ROOM, 6);
+    next = check_feeds(next, state, 1, 0, 6);
+    next = check_refused(next, state, b"i\n\n", ROOM, 6);
+    next = check_held(next, state, 0, 0, zeros(0));
+    next = check_held(next, state, 1, 0, tail_with(1, 0, b'0'));
+    check_held(next, state, LONG, ROOM, zeros(OVER_LONG))
+}
+
+// Feeds an empty line that must be answered, and makes the lines as many as there can be.
+fn check_empty(seen: Seen, state: State, space: usize) -> Seen
+    requires { ⌜ space ≤ room ⌝ }
+{
+    let full = all_bad(zeros(0), MOST_LINES);
+    check_taken(seen, state, b"\n", space, full, b"bad=2\n")
 }
 
 // A state with room for one line more: it is taken where the output has room, and two are not.
 fn check_last(seen: Seen) -> Seen {
     let state = all_bad(zeros(0), MOST_LINES - 1);
-    let full = all_bad(zeros(0), MOST_LINES);
-    let mut next = check_taken(seen, 7, state, b"\n", ROOM, full, b"bad=2\n");
-    next = check_taken(next, 8, state, b"\n", 6, full, b"bad=2\n");
-    next = check_refused(next, b"most lines", 9, state, b"\n", 5, 7);
-    next = check_refused(next, b"most lines", 10, state, b"\n", 0, 7);
-    next = check_refused(next, b"most lines", 11, state, b"\n\n", ROOM, 6);
-    check_refused(next, b"most lines", 12, state, b"\n\n", 0, 6)
+    let mut next = check_empty(seen, state, ROOM);
+    next = check_empty(next, state, 6);
+    next = check_feeds(next, state, 1, 5, 7);
+    next = check_feeds(next, state, 1, 0, 7);
+    next = check_feeds(next, state, 2, ROOM, 6);
+    check_feeds(next, state, 2, 0, 6)
 }
 
 // States at the most lines.
 pub(crate) fn check_most() -> Seen {
-    let full = made(
-        zeros(0),
-        MOST_LINES,
-        tallies(1, 2, 3, 4, 5, MOST_LINES - 15),
-    );
-    check_last(check_full(none_seen(), full))
+    check_last(check_full(none_seen()))
 }
 
 // Closes: at the start and after whole lines, in a line, in an over-long line.
 pub(crate) fn check_closes() -> Seen {
-    let mut seen = check_close(none_seen(), b"close", 1, batch::fresh(), 0);
-    seen = check_close(seen, b"close", 2, all_bad(zeros(0), MOST_LINES), 0);
-    seen = check_close(seen, b"close", 3, all_bad(tail_with(1, 0, b'i'), 0), 8);
-    seen = check_close(seen, b"close", 4, all_bad(zeros(30), 3), 8);
-    check_close(seen, b"close", 5, all_bad(zeros(31), 3), 8)
+    let mut seen = check_close(none_seen(), batch::fresh(), 0);
+    seen = check_close(seen, all_bad(zeros(0), MOST_LINES), 0);
+    seen = check_close(seen, all_bad(tail_with(1, 0, b'i'), 0), 8);
+    seen = check_close(seen, all_bad(zeros(FULL), 3), 8);
+    check_close(seen, all_bad(zeros(OVER_LONG), 3), 8)
 }

@@ -1,0 +1,2 @@
+-- The number that the contracts of `cuts` cite.
+pub mod Limits
