@@ -13,10 +13,16 @@ use Rattle.lines.specs.Bytes.{all}
 use Rattle.lines.specs.Format.{longest}
 use Rattle.batch.specs.declared.Tail.{Tail}
 use Rattle.batch.specs.declared.State.{State}
-use Rattle.batch.specs.Complete.{feeds}
-use Rattle.batch.specs.Tally.{total}
+use Rattle.batch.specs.declared.Verdict.{Verdict}
+use Rattle.batch.specs.declared.Verdict.the-variants.{Accepted, Broken, TooManyLines, NoRoom}
+use Rattle.batch.specs.declared.Closed.{Closed}
+use Rattle.batch.specs.declared.Closed.the-variants.{Whole, BrokenState, Unfinished}
+use Rattle.batch.specs.Complete.{linesFrom, restFrom, feeds}
+use Rattle.batch.specs.Tally.{plus, counts, total}
 use Rattle.batch.specs.Holding.{overLong, zeros, hold, carried, Sound, unused, broken}
-use Rattle.batch.proofs.Cutting.{feeds-append}
+use Rattle.batch.specs.Feed.{mostLines, replies, answerLines, added, after, verdict, stateAfter, fed, closed}
+use Rattle.batch.proofs.Cutting.{feeds-append, feeds-rest, length-lines}
+use Rattle.batch.proofs.Replied.{total-plus, total-counts}
 use Rattle.batch.proofs.Holds.{marked, hold-short, hold-long, carried-kept}
 
 -- true is not false
@@ -52,8 +58,8 @@ drop-zeros zero m = rw sub-zero
 drop-zeros (suc n) zero = rw zero-sub
 drop-zeros (suc n) (suc m) = rw suc-sub-suc (drop-zeros n m)
 
--- of a state that is not broken, whose tail has its places
-module _ (s : State) (places : length (s .tail .bytes) ≡ longest) (h : broken s ≡ false) where
+-- of a state that is not broken
+module _ (s : State) (h : broken s ≡ false) where
   -- the four causes are none
   tests : None (ltb overLong (s .tail .count)) (ltb 0 (feeds (s .tail .bytes))) (not (all (λ b. eqb b 0) (drop (unused (s .tail)) (s .tail .bytes)))) (not (eqb (total (s .tallies)) (s .lines)))
   unfolding broken
@@ -63,44 +69,54 @@ module _ (s : State) (places : length (s .tail .bytes) ≡ longest) (h : broken 
   pub adds-up : total (s .tallies) ≡ s .lines
   adds-up = eqb-true _ _ (not-false _ (tests .fourth))
 
+  -- the count is at most the mark
+  pub count-most : s .tail .count ≤ overLong
+  count-most = ltb-false _ _ (tests .first)
+
+  -- there is no line feed in the tail
+  no-feeds : feeds (s .tail .bytes) ≡ 0
+  no-feeds = let f : feeds (s .tail .bytes) ≤ 0 = ltb-false _ _ (tests .second) in omega arith
+
   unused-zero : all (λ b. eqb b 0) (drop (unused (s .tail)) (s .tail .bytes)) ≡ true
   unused-zero = not-false _ (tests .third)
 
-  -- an over-long line is marked
-  is-marked : s .tail .count ≡ overLong → Sound (s .tail)
-  unfolding unused carried
-  is-marked e =
-      let z : s .tail .bytes ≡ zeros = all-zeros (s .tail .bytes) (rw (eq-eqb (s .tail .count) overLong e) at unused-zero) ∙ ap (λ (k : ℕ). replicate k 0) places in
-      let m : s .tail ≡ marked = ap (λ (k : List ℕ). record { bytes = k; count = s .tail .count }) z ∙ ap (λ (k : ℕ). record { bytes = zeros; count = k }) e in
-      rw m (sym (hold-long (carried marked) (lit< tt)))
+  -- whose tail has its places
+  module _ (places : length (s .tail .bytes) ≡ longest) where
+    -- an over-long line is marked
+    is-marked : s .tail .count ≡ overLong → Sound (s .tail)
+    unfolding unused carried
+    is-marked e =
+        let z : s .tail .bytes ≡ zeros = all-zeros (s .tail .bytes) (rw (eq-eqb (s .tail .count) overLong e) at unused-zero) ∙ ap (λ (k : ℕ). replicate k 0) places in
+        let m : s .tail ≡ marked = ap (λ (k : List ℕ). record { bytes = k; count = s .tail .count }) z ∙ ap (λ (k : ℕ). record { bytes = zeros; count = k }) e in
+        rw m (sym (hold-long (carried marked) (lit< tt)))
 
-  -- another is kept
-  is-kept : s .tail .count ≤ longest → Sound (s .tail)
-  unfolding unused
-  is-kept g =
-      let n : ℕ = s .tail .count in
-      let b : List ℕ = s .tail .bytes in
-      let c : carried (s .tail) ≡ take n b = carried-kept (s .tail) g in
-      let l : length (carried (s .tail)) ≡ n = ap length c ∙ length-take-le n b (omega arith) in
-      let z : drop n b ≡ drop n zeros =
-      all-zeros (drop n b) (rw (ne-eqb n overLong (omega arith)) at unused-zero) ∙ ap (λ (k : ℕ). replicate k 0) (length-drop n b ∙ ap (λ (k : ℕ). k - n) places) ∙ sym (drop-zeros n longest) in
-      sym
-      (hold-short (carried (s .tail)) (omega arith)
-      ∙ ap (λ (k : ℕ). record { bytes = carried (s .tail) ++ drop k zeros; count = k }) l
-      ∙ ap (λ (k : List ℕ). record { bytes = k ++ drop n zeros; count = n }) c
-      ∙ ap (λ (k : List ℕ). record { bytes = take n b ++ k; count = n }) (sym z)
-      ∙ ap (λ (k : List ℕ). record { bytes = k; count = n }) (take-append-drop n b))
+    -- another is kept
+    is-kept : s .tail .count ≤ longest → Sound (s .tail)
+    unfolding unused
+    is-kept g =
+        let n : ℕ = s .tail .count in
+        let b : List ℕ = s .tail .bytes in
+        let c : carried (s .tail) ≡ take n b = carried-kept (s .tail) g in
+        let l : length (carried (s .tail)) ≡ n = ap length c ∙ length-take-le n b (omega arith) in
+        let z : drop n b ≡ drop n zeros =
+        all-zeros (drop n b) (rw (ne-eqb n overLong (omega arith)) at unused-zero) ∙ ap (λ (k : ℕ). replicate k 0) (length-drop n b ∙ ap (λ (k : ℕ). k - n) places) ∙ sym (drop-zeros n longest) in
+        sym
+        (hold-short (carried (s .tail)) (omega arith)
+        ∙ ap (λ (k : ℕ). record { bytes = carried (s .tail) ++ drop k zeros; count = k }) l
+        ∙ ap (λ (k : List ℕ). record { bytes = k ++ drop n zeros; count = n }) c
+        ∙ ap (λ (k : List ℕ). record { bytes = take n b ++ k; count = n }) (sym z)
+        ∙ ap (λ (k : List ℕ). record { bytes = k; count = n }) (take-append-drop n b))
 
-  -- so the tail holds a line
-  pub tail-sound : Sound (s .tail)
-  tail-sound = by (leb (s .tail .count) longest) refl
-    where
-      by : (t : Bool) → leb (s .tail .count) longest ≡ t → Sound (s .tail)
-      by true e = is-kept (leb-true _ _ e)
-      by false e =
-          let f : longest < s .tail .count = leb-false _ _ e in
-          let m : s .tail .count ≤ overLong = ltb-false _ _ (tests .first) in
-          is-marked (omega arith)
+    -- so the tail holds a line
+    pub tail-sound : Sound (s .tail)
+    tail-sound = by (leb (s .tail .count) longest) refl
+      where
+        by : (t : Bool) → leb (s .tail .count) longest ≡ t → Sound (s .tail)
+        by true e = is-kept (leb-true _ _ e)
+        by false e =
+            let f : longest < s .tail .count = leb-false _ _ e in
+            let m : s .tail .count ≤ overLong = count-most in
+            is-marked (omega arith)
 
 -- zeros are no line feeds, and zeros
 feeds-zeros : (n : ℕ) → feeds (replicate n 0) ≡ 0
@@ -151,3 +167,55 @@ unbroken s l e f t =
     let p : Passes (s .tail) = rw e (passes l f) in
     let z : feeds (s .tail .bytes) ≡ 0 = p .no-feed in
     rw (le-ltb overLong (s .tail .count) (p .count-most), le-ltb 0 (feeds (s .tail .bytes)) (omega arith), p .rest-zero, eq-eqb _ _ t)
+
+-- a state that is not broken carries no line feed, and is not broken after a piece
+carried-feeds : (s : State) → broken s ≡ false → feeds (carried (s .tail)) ≡ 0
+unfolding carried
+carried-feeds s h = by (eqb (s .tail .count) overLong)
+  where
+    some : (a b c : ℕ) → a ≡ b + c → a ≡ 0 → b ≡ 0
+    some a b c e f = omega arith
+
+    by : (t : Bool) → feeds (cond t (replicate overLong 0) (take (s .tail .count) (s .tail .bytes))) ≡ 0
+    by true = feeds-zeros overLong
+    by false =
+        some _ _ _ (ap feeds (sym (take-append-drop (s .tail .count) (s .tail .bytes))) ∙ feeds-append (take (s .tail .count) (s .tail .bytes)) (drop (s .tail .count) (s .tail .bytes)))
+        (no-feeds s h)
+
+pub after-unbroken : (s : State) (p : List ℕ) → broken s ≡ false → broken (after s p) ≡ false
+unfolding after added
+after-unbroken s p h =
+    unbroken (after s p) (restFrom (carried (s .tail)) p) refl (feeds-rest p (carried (s .tail)) (carried-feeds s h))
+    (total-plus (s .tallies) (counts (replies (linesFrom (carried (s .tail)) p)))
+    ∙ ap (λ (k : ℕ). total (s .tallies) + k) (total-counts (linesFrom (carried (s .tail)) p) ∙ length-lines p (carried (s .tail)))
+    ∙ ap (λ (k : ℕ). k + feeds p) (adds-up s h))
+
+-- so neither feed nor close answers 5 to such a state, and feed leaves one that is not broken
+module _ (s : State) (h : broken s ≡ false) where
+  pub close-not-five : closed s ≡ BrokenState → ⊥
+  unfolding closed
+  close-not-five e = by (eqb (s .tail .count) 0) (rw h at e)
+    where
+      by : (t : Bool) → cond t Whole Unfinished ≡ BrokenState → ⊥
+      by true f = let z : _≡_ {A = ℕ} 0 1 = cc in omega arith
+      by false f = let z : _≡_ {A = ℕ} 0 1 = cc in omega arith
+
+  module _ (p : List ℕ) (room : ℕ) where
+    pub feed-not-five : verdict s p room ≡ Broken → ⊥
+    unfolding verdict
+    feed-not-five e = by (ltb mostLines (s .lines + feeds p)) (ltb room (length (answerLines (added s p)))) (rw h at e)
+      where
+        by : (m r : Bool) → cond m TooManyLines (cond r NoRoom (Accepted (length (answerLines (added s p))))) ≡ Broken → ⊥
+        by true r f = let z : _≡_ {A = ℕ} 0 1 = cc in omega arith
+        by false true f = let z : _≡_ {A = ℕ} 0 1 = cc in omega arith
+        by false false f = let z : _≡_ {A = ℕ} 0 1 = cc in omega arith
+
+    pub fed-unbroken : broken (fed s p room .state) ≡ false
+    unfolding fed stateAfter
+    fed-unbroken = by (verdict s p room)
+      where
+        by : (v : Verdict) → broken (stateAfter v s p) ≡ false
+        by (Accepted n) = after-unbroken s p h
+        by Broken = h
+        by TooManyLines = h
+        by NoRoom = h

@@ -22,7 +22,7 @@ ghost use Rattle.batch.specs.Feed.{replies, answerLines, added, after, m
 
 // How far the answering has come: the place after the bytes written, the place after the last line
 // feed, the tallies.
-pub struct Progress {
+pub(crate) struct Progress {
     pub at: usize,
     pub from: usize,
     pub tallies: Tallies,

@@ -13,14 +13,17 @@ use libc::STDERR_FILENO;
 use libc::STDIN_FILENO;
 use libc::STDOUT_FILENO;
 ghost use mathlib.Core.Path.{_≡_};
-ghost use Prim.Native.Nat.{ℕ, _≤_};
+ghost use mathlib.Core.Bool.{false};
+ghost use Prim.Native.Nat.{ℕ, _+_, _*_, _≤_};
 ghost use lib.ListN.{length};
+ghost use Rattle.batch.specs.Feed.{more};
+ghost use Rattle.batch.specs.Holding.{overLong, broken};
 
 // The most bytes that are read at once.
 const PIECE: usize = 8192;
 
 // Room for the answers to any piece: they have at most as many bytes as the tail and the piece, and
-// some more for each line feed (`answers-length` of crates/batch/proofs/Replied.antt).
+// some more for each line feed.
 const ANSWERS: usize = OVER_LONG as usize + PIECE + MORE * PIECE;
 
 // The most reads: no run comes to so many.
@@ -40,10 +43,16 @@ struct Turn {
     next: Next,
 }
 
-// Tells of a failure of our own. No input brings it about: 5 never comes in a series of feeds (demand
-// 3), and for 7 the output would have to be shorter than ANSWERS.
-fn fault() -> Next {
-    io::write_all(STDERR_FILENO, b"fade: internal failure; no totals\n");
+// Stands where the program never comes: each call is proved to be one that is not made.
+fn never() -> Next
+    requires { ⌜ ⊥ ⌝ }
+{
+    Next::Nothing
+}
+
+// Tells that the reads have run out.
+fn out_of_reads() -> Next {
+    io::write_all(STDERR_FILENO, b"fade: too many reads; no totals\n");
     Next::Nothing
 }
 
@@ -65,30 +74,38 @@ fn print(text: &[u8], next: Next) -> Next {
     Next::Nothing
 }
 
-// Prints the answers to a piece that was accepted.
+// Prints the answers to a piece that was accepted. 5 and 7 do not come.
 fn print_answers(verdict: Verdict, out: &[u8]) -> Next
     requires { ⌜ ((n : ℕ) → verdict ≡ Verdict.Accepted n → n ≤ length (now out)) ⌝ }
+    requires { ⌜ (verdict ≡ Verdict.Broken → ⊥) ⌝ }
+    requires { ⌜ (verdict ≡ Verdict.NoRoom → ⊥) ⌝ }
 {
     match verdict {
         Verdict::Accepted(n) => print(&out[..n], Next::Read),
         Verdict::TooManyLines => Next::Totals(batch::feed_number(verdict)),
-        Verdict::Broken => fault(),
-        Verdict::NoRoom => fault(),
+        Verdict::Broken => never(),
+        Verdict::NoRoom => never(),
     }
 }
 
 // At the end of the input.
-fn at_end(state: State) -> Next {
+fn at_end(state: State) -> Next
+    requires { ⌜ broken state ≡ false ⌝ }
+{
     let closed = batch::close(state);
     match closed {
         Closed::Whole => Next::Totals(batch::close_number(closed)),
         Closed::Unfinished => Next::Totals(batch::close_number(closed)),
-        Closed::BrokenState => fault(),
+        Closed::BrokenState => never(),
     }
 }
 
-// Reads a piece and answers it.
-fn read_piece(state: State, piece: &mut [u8], out: &mut [u8]) -> Turn {
+// Reads a piece and answers it. The output has room for the answers to any piece.
+fn read_piece(state: State, piece: &mut [u8], out: &mut [u8]) -> Turn
+    requires { ⌜ broken state ≡ false ⌝ }
+    requires { ⌜ overLong + length (now piece) + more * length (now piece) ≤ length (now out) ⌝ }
+    ensures { λ r. ⌜ broken (r .state) ≡ false ⌝ }
+{
     let got = libc::read(STDIN_FILENO, piece);
     if got < 0 {
         let next = not_read();
@@ -107,7 +124,9 @@ fn read_piece(state: State, piece: &mut [u8], out: &mut [u8]) -> Turn {
 }
 
 // Reads and answers up to the end of the input.
-fn answer_input(piece: &mut [u8], out: &mut [u8]) -> Turn {
+fn answer_input(piece: &mut [u8], out: &mut [u8]) -> Turn
+    requires { ⌜ overLong + length (now piece) + more * length (now piece) ≤ length (now out) ⌝ }
+{
     let mut state = batch::fresh();
     for _ in 0..READS {
         let turn = read_piece(state, piece, out);
@@ -117,7 +136,7 @@ fn answer_input(piece: &mut [u8], out: &mut [u8]) -> Turn {
         };
         state = turn.state;
     }
-    let next = fault();
+    let next = out_of_reads();
     Turn { state, next }
 }
 

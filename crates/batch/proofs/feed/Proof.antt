@@ -88,13 +88,13 @@ few : (n f : ℕ) → n + f ≤ mostLines → f ≤ mostLines
 few n f h = omega arith
 
 is-short-requires : tie.Need-is-short-requires
-is-short-requires c κs = (tail-sound (c .before .before .before .before .before .before .before .args .state) (places (c .before .before .before .before .before .before .before .args .state) (c .before .before .before .before .before .before .before .good .0 .1 .1 .0 .1 .1 .0 .1 .0 .1)) (sym (c .before .before .before .before .is-broken .ensures) ∙ c .before .before .before .if1 .left), few _ _ (ltb-false _ _ (sym (c .before .before .too-many .ensures) ∙ c .before .if2 .left)))
+is-short-requires c κs = (tail-sound (c .before .before .before .before .before .before .before .args .state) (sym (c .before .before .before .before .is-broken .ensures) ∙ c .before .before .before .if1 .left) (places (c .before .before .before .before .before .before .before .args .state) (c .before .before .before .before .before .before .before .good .0 .1 .1 .0 .1 .1 .0 .1 .0 .1)), few _ _ (ltb-false _ _ (sym (c .before .before .too-many .ensures) ∙ c .before .if2 .left)))
 
 returns-3 : tie.Need-returns-3
 returns-3 c = is-seven _ _ _ (sym (c .before .before .before .before .before .before .is-broken .ensures) ∙ c .before .before .before .before .before .if1 .left) (sym (c .before .before .before .before .too-many .ensures) ∙ c .before .before .before .if2 .left) (shorter _ _ _ _ (c .before .is-short .ensures) (c .if3 .taken))
 
 take-piece-requires : tie.Need-take-piece-requires
-take-piece-requires c κs = (tail-sound (c .before .before .before .before .before .before .before .before .before .before .args .state) (places (c .before .before .before .before .before .before .before .before .before .before .args .state) (c .before .before .before .before .before .before .before .before .before .before .good .0 .1 .1 .0 .1 .1 .0 .1 .0 .1)) (sym (c .before .before .before .before .before .before .before .is-broken .ensures) ∙ c .before .before .before .before .before .before .if1 .left), (adds-up (c .before .before .before .before .before .before .before .before .before .before .args .state) (places (c .before .before .before .before .before .before .before .before .before .before .args .state) (c .before .before .before .before .before .before .before .before .before .before .good .0 .1 .1 .0 .1 .1 .0 .1 .0 .1)) (sym (c .before .before .before .before .before .before .before .is-broken .ensures) ∙ c .before .before .before .before .before .before .if1 .left), (ltb-false _ _ (sym (c .before .before .before .before .before .too-many .ensures) ∙ c .before .before .before .before .if2 .left), ltb-false _ _ (shorter _ _ _ _ (c .before .before .is-short .ensures) (c .before .if3 .left)))))
+take-piece-requires c κs = (tail-sound (c .before .before .before .before .before .before .before .before .before .before .args .state) (sym (c .before .before .before .before .before .before .before .is-broken .ensures) ∙ c .before .before .before .before .before .before .if1 .left) (places (c .before .before .before .before .before .before .before .before .before .before .args .state) (c .before .before .before .before .before .before .before .before .before .before .good .0 .1 .1 .0 .1 .1 .0 .1 .0 .1)), (adds-up (c .before .before .before .before .before .before .before .before .before .before .args .state) (sym (c .before .before .before .before .before .before .before .is-broken .ensures) ∙ c .before .before .before .before .before .before .if1 .left), (ltb-false _ _ (sym (c .before .before .before .before .before .too-many .ensures) ∙ c .before .before .before .before .if2 .left), ltb-false _ _ (shorter _ _ _ _ (c .before .before .is-short .ensures) (c .before .if3 .left)))))
 
 returns-4 : tie.Need-returns-4
 returns-4 c = taken _ _ _ (sym (c .before .before .before .before .before .before .before .before .before .before .is-broken .ensures) ∙ c .before .before .before .before .before .before .before .before .before .if1 .left) (sym (c .before .before .before .before .before .before .before .before .too-many .ensures) ∙ c .before .before .before .before .before .before .before .if2 .left) (shorter _ _ _ _ (c .before .before .before .before .before .is-short .ensures) (c .before .before .before .before .if3 .left)) _ _ (c .before .before .take-piece .ensures .0) (c .before .before .take-piece .ensures .1)
