@@ -66,6 +66,11 @@ pub fn lines(batch: &[u8]) -> (Vec<&[u8]>, &[u8]) {
     (lines, tail)
 }
 
+// The answer lines of a batch.
+pub fn answers(batch: &[u8]) -> Vec<u8> {
+    lines(batch).0.into_iter().flat_map(|line| answer_line(&answer(line))).collect()
+}
+
 // What fade prints for a batch: the answer lines, the totals, and `end=8` if something follows the
 // last feed. No batch here has more lines than a u32 counts, so that none ends with 6.
 pub fn printed(batch: &[u8]) -> Vec<u8> {

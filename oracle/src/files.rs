@@ -8,7 +8,7 @@ use std::path::Path;
 // A path from the repository's root, and what the file holds.
 pub type File = (&'static str, Vec<u8>);
 
-// Writes the files, and the folders that lack.
+// Writes the files, and the folders that are missing.
 pub fn write(files: &[File]) {
     for (path, bytes) in files {
         let folder = Path::new(path).parent().expect("a file has a folder");

@@ -120,6 +120,17 @@ id=7\0x=3f000000 y=40000000
 id=9 x=bc23d70a y=447a0000
 id=9 x=bc2";
 
+// What cuts prints after the answers to the small batch: how many checks each group made, and that
+// none was wrong.
+const CHECKED: &[u8] = b"\
+whole: checks of feed 1, of close 0, wrong 0
+cut in two: checks of feed 2716, of close 349, wrong 0
+byte by byte: checks of feed 722, of close 0, wrong 0
+broken states: checks of feed 200, of close 40, wrong 0
+most lines: checks of feed 12, of close 0, wrong 0
+close: checks of feed 0, of close 5, wrong 0
+";
+
 // A batch while it grows, and the lines that still wait for the end of a piece.
 struct Batch {
     bytes: Vec<u8>,
@@ -276,8 +287,9 @@ fn other_byte(r: &mut Random) -> u8 {
     r.pick(&[b' ', b'=', b'0', b'9', b'a', b'f', b'A', b'F', b'g', b'y', b'\t', b'\r', b'\0', any])
 }
 
-// The files: the large batch, what fade prints for it, and the small batch.
-pub fn files() -> [File; 5] {
+// The files: the large batch and what fade prints for it, the small batch and what cuts prints for
+// it, and the README's batch and what fade prints for it.
+pub fn files() -> [File; 6] {
     let large = large();
     assert_varied(&large, 40);
     assert_varied(SMALL, 1);
@@ -286,6 +298,7 @@ pub fn files() -> [File; 5] {
         ("crates/fade/stdin", large),
         ("crates/fade/stdout", printed),
         ("crates/cuts/stdin", SMALL.to_vec()),
+        ("crates/cuts/stdout", [&batch::answers(SMALL)[..], CHECKED].concat()),
         ("samples/cells.txt", README.to_vec()),
         ("samples/cells.out", batch::printed(README)),
     ]
@@ -304,7 +317,7 @@ fn assert_varied(bytes: &[u8], least: usize) {
 // The plain program's output beside what fade must print: for the batches, and for drawn lines.
 pub fn plain_program() -> Tally {
     let mut r = Random::new(1);
-    let drawn = (1..LINES / 2).flat_map(|number| drawn(&mut r, number));
+    let drawn = (1..=LINES / 2).flat_map(|number| drawn(&mut r, number));
     let drawn = drawn.flat_map(|line| [line, vec![b'\n']]).collect::<Vec<_>>().concat();
     let batches = [drawn, large(), SMALL.to_vec(), Vec::new()];
     batches.iter().map(|batch| plain(batch)).fold(Tally::default(), Tally::plus)

@@ -1,15 +1,13 @@
 -- The state that holds what was taken: it is not broken, and feeding it is feeding a piece after what was taken. Assumes nothing.
-use Prim.Native.Nat.{ℕ, _+_, _-_, _≤_, _<_}
-use native.Mathlib.Nat.{sub-zero}
+use Prim.Native.Nat.{ℕ, _+_, _-_, _<_}
 use native.Mathlib.Omega.{arith}
 use mathlib.Core.Path.{_≡_, refl, sym, ap, _∙_}
-use mathlib.Core.Bool.{Bool, true, false, not, _||_, cond}
+use mathlib.Core.Bool.{Bool, true, false, cond}
 use mathlib.Core.List.{List, [], _∷_, _++_, map}
 use lib.Dec.{eqb, ltb, leb}
-use borrow.Author.Tests.{le-ltb, eq-eqb, ne-eqb, leb-true, leb-false}
+use borrow.Author.Tests.{leb-true, leb-false}
 use lib.ListN.{length, drop, length-append}
-use lib.Seq.{drop-at, drop-append-seam}
-use Rattle.lines.specs.Bytes.{all}
+use lib.Seq.{drop-append-seam}
 use Rattle.lines.specs.Format.{longest}
 use Rattle.lines.specs.Reply.{Told, replyTo}
 use Rattle.lines.proofs.Lengths.{over-long}
@@ -17,12 +15,12 @@ use Rattle.batch.specs.declared.State.{State}
 use Rattle.batch.specs.declared.Tail.{Tail}
 use Rattle.batch.specs.declared.Tallies.{Tallies}
 use Rattle.batch.specs.Complete.{lineFeed, linesFrom, restFrom, lines, rest, feeds}
-use Rattle.batch.specs.Tally.{plus, counts, total}
-use Rattle.batch.specs.Holding.{overLong, zeros, hold, carried, unused, broken, fresh}
+use Rattle.batch.specs.Tally.{plus, counts}
+use Rattle.batch.specs.Holding.{hold, carried, broken, fresh}
 use Rattle.batch.specs.Feed.{mostLines, replies, joined, answerLines, added, after, verdict}
 use Rattle.batch.specs.Series.{adds, due}
 use Rattle.batch.proofs.Cutting.{lines-append, rest-append, feeds-append, feeds-rest, length-lines}
-use Rattle.batch.proofs.Holds.{hold-short, hold-long, carried-short, carried-long}
+use Rattle.batch.proofs.Holds.{hold-long, carried-short, carried-long}
 use Rattle.batch.proofs.Unbroken.{unbroken}
 use Rattle.batch.proofs.Replied.{counts-append, total-counts}
 use Rattle.batch.specs.declared.Verdict.{Verdict}

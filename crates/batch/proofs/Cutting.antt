@@ -4,9 +4,9 @@ use native.Mathlib.Numerals.{add-one}
 use native.Mathlib.Omega.{arith}
 use mathlib.Core.Path.{_≡_, refl, sym, ap, _∙_}
 use mathlib.Core.Bool.{Bool, true, false, cond}
-use mathlib.Core.List.{List, [], _∷_, _++_, append-nil, append-assoc}
+use mathlib.Core.List.{List, [], _∷_, _++_, append-nil}
 use lib.Dec.{eqb}
-use lib.ListN.{length, take, drop, length-append, length-drop}
+use lib.ListN.{length, take, drop, length-drop}
 use lib.Seq.{append-snoc, drop-drop, take-all}
 use Rattle.batch.specs.Complete.{lineFeed, linesFrom, restFrom, lines, rest, feeds, lineEnd}
 
@@ -157,13 +157,6 @@ module _ (p : List ℕ) (i end : ℕ) (h : i ≤ length p) (e : end ≡ i + line
     where
       sum : (i n end : ℕ) → end ≡ i + n → i + (n + 1) ≡ end + 1
       sum i n end e = omega arith
-
-  -- the end lies within the piece
-  pub end-within : end ≤ length p
-  end-within = within i (lineEnd (drop i p)) end (length p) (length (drop i p)) e (line-end-within (drop i p)) (length-drop i p) h
-    where
-      within : (i n end m d : ℕ) → end ≡ i + n → n ≤ d → d ≡ m - i → i ≤ m → end ≤ m
-      within i n end m d e g k h = omega arith
 
   -- where there is a line feed, a line ends
   pub line-here : (so : List ℕ) → end < length p → FirstLine so (drop i p) (take (end - i) (drop i p)) (drop (end + 1) p)

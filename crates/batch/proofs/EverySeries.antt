@@ -1,5 +1,5 @@
 -- Demand 3: what every list of feed calls from a fresh state comes to. One call after what was taken, then any list of them. Assumes nothing.
-use Prim.Native.Nat.{ℕ, _+_, _≤_, _<_}
+use Prim.Native.Nat.{ℕ, _+_, _≤_}
 use native.Mathlib.Omega.{arith}
 use mathlib.Core.Path.{_≡_, refl, sym, ap, _∙_}
 use mathlib.Core.Bool.{Bool, true, false, cond}
@@ -17,9 +17,8 @@ use Rattle.batch.specs.declared.State.{State}
 use Rattle.batch.specs.declared.Fed.{Fed}
 use Rattle.batch.specs.declared.Verdict.{Verdict}
 use Rattle.batch.specs.declared.Verdict.the-variants.{Accepted, Broken, TooManyLines, NoRoom}
-use Rattle.batch.specs.Complete.{linesFrom, lines, rest, feeds}
-use Rattle.batch.specs.Holding.{fresh, hold}
-use Rattle.batch.specs.Tally.{counts}
+use Rattle.batch.specs.Complete.{linesFrom, lines, feeds}
+use Rattle.batch.specs.Holding.{fresh}
 use Rattle.batch.specs.Feed.{mostLines, replies, joined, answerLines, added, number, stateAfter, outAfter, fed, Did}
 use Rattle.batch.specs.Series.{Call, Calls, stateOf, isAccepted, accepted, said, wrote, wroteAll, adds, due, takes, dueAll, asked, verdicts, Answered, Obeyed, Served, Always, Possible}
 use Rattle.batch.proofs.Replied.{answer-append}

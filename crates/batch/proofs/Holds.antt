@@ -1,20 +1,17 @@
 -- The tail that holds a line, and the line that a tail holds. Assumes nothing.
-use Prim.Native.Nat.{ℕ, zero, suc, _+_, _-_, _≤_, _<_}
+use Prim.Native.Nat.{ℕ, _+_, _-_, _≤_, _<_}
 use native.Mathlib.Omega.{arith}
 use mathlib.Core.Path.{_≡_, refl, sym, ap, _∙_}
-use mathlib.Core.Bool.{Bool, true, false, not, _&&_, _||_, cond}
-use mathlib.Core.List.{List, [], _∷_, _++_, append-assoc}
-use lib.Dec.{eqb, ltb, leb, lit<, lit≤}
-use borrow.Author.Tests.{le-leb, lt-leb, leb-true, leb-false, ltb-true, ltb-false, eq-eqb, ne-eqb, eqb-true, eqb-false}
-use lib.ListN.{length, take, drop, replicate, length-append, take-append-drop, length-drop, length-replicate}
-use lib.Seq.{take-at, drop-at, drop-drop, take-append-le, length-take-le, drop-append-add}
-use Rattle.lines.specs.Bytes.{put, all}
+use mathlib.Core.Bool.{Bool, true, false}
+use mathlib.Core.List.{List, _++_}
+use lib.Dec.{leb, lit<}
+use borrow.Author.Tests.{le-leb, lt-leb, leb-true, leb-false, ne-eqb}
+use lib.ListN.{length, take, drop, length-append, length-drop}
+use lib.Seq.{take-at, drop-drop, drop-append-add}
+use Rattle.lines.specs.Bytes.{put}
 use Rattle.lines.specs.Format.{longest}
 use Rattle.batch.specs.declared.Tail.{Tail}
-use Rattle.batch.specs.declared.State.{State}
-use Rattle.batch.specs.Complete.{feeds}
-use Rattle.batch.specs.Tally.{total}
-use Rattle.batch.specs.Holding.{overLong, zeros, hold, carried, Sound, unused, broken}
+use Rattle.batch.specs.Holding.{overLong, zeros, hold, carried, Sound}
 
 -- the mark of an over-long line
 abbrev pub marked : Tail

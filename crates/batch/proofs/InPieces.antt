@@ -4,16 +4,16 @@ use native.Mathlib.Omega.{arith}
 use mathlib.Core.Path.{_≡_, refl, sym, ap, _∙_}
 use mathlib.Core.Bool.{Bool, true, false, cond}
 use mathlib.Core.List.{List, [], _∷_, _++_, append-nil, append-assoc}
-use lib.Dec.{eqb, ltb}
+use lib.Dec.{eqb}
 use lib.ListN.{length, take, drop, length-append, length-drop, drop-of-length-le, take-append-drop}
-use lib.Seq.{take-at, drop-at, drop-drop, take-all, take-add, drop-append-add}
+use lib.Seq.{take-at, drop-at, drop-drop, take-all, take-add}
 use borrow.Author.Tests.{le-ltb}
 use Rattle.batch.specs.declared.State.{State}
 use Rattle.batch.specs.declared.Fed.{Fed}
 use Rattle.batch.specs.declared.Tail.{Tail}
 use Rattle.batch.specs.declared.Tallies.{Tallies}
 use Rattle.batch.specs.declared.Verdict.{Verdict}
-use Rattle.batch.specs.declared.Verdict.the-variants.{Accepted, Broken, TooManyLines, NoRoom}
+use Rattle.batch.specs.declared.Verdict.the-variants.{Accepted, Broken}
 use Rattle.batch.specs.Complete.{linesFrom, lines, rest, feeds}
 use Rattle.batch.specs.Holding.{hold, fresh}
 use Rattle.batch.specs.Feed.{mostLines, answerLines, added, after, verdict, number, stateAfter, outAfter, fed, Did}

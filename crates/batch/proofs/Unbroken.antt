@@ -3,22 +3,21 @@ use Prim.Native.Nat.{ℕ, zero, suc, _+_, _-_, _≤_, _<_}
 use native.Mathlib.Nat.{zero-add, sub-zero, zero-sub, suc-sub-suc}
 use native.Mathlib.Omega.{arith}
 use mathlib.Core.Path.{_≡_, refl, sym, ap, _∙_}
-use mathlib.Core.Bool.{Bool, true, false, not, _&&_, _||_, cond}
+use mathlib.Core.Bool.{Bool, true, false, not, _||_, cond}
 use mathlib.Core.List.{List, [], _∷_, _++_}
 use lib.Dec.{eqb, ltb, leb, lit<}
-use borrow.Author.Tests.{le-leb, lt-leb, leb-true, leb-false, ltb-true, ltb-false, le-ltb, eq-eqb, ne-eqb, eqb-true, eqb-false, not-false}
+use borrow.Author.Tests.{leb-true, leb-false, ltb-false, le-ltb, eq-eqb, ne-eqb, eqb-true, not-false}
 use lib.ListN.{length, take, drop, replicate, length-drop, take-append-drop}
-use lib.Seq.{take-append-le, length-take-le, drop-append-seam}
+use lib.Seq.{length-take-le, drop-append-seam}
 use Rattle.lines.specs.Bytes.{all}
 use Rattle.lines.specs.Format.{longest}
 use Rattle.batch.specs.declared.Tail.{Tail}
 use Rattle.batch.specs.declared.State.{State}
 use Rattle.batch.specs.declared.Verdict.{Verdict}
 use Rattle.batch.specs.declared.Verdict.the-variants.{Accepted, Broken, TooManyLines, NoRoom}
-use Rattle.batch.specs.declared.Closed.{Closed}
 use Rattle.batch.specs.declared.Closed.the-variants.{Whole, BrokenState, Unfinished}
 use Rattle.batch.specs.Complete.{linesFrom, restFrom, feeds}
-use Rattle.batch.specs.Tally.{plus, counts, total}
+use Rattle.batch.specs.Tally.{counts, total}
 use Rattle.batch.specs.Holding.{overLong, zeros, hold, carried, Sound, unused, broken}
 use Rattle.batch.specs.Feed.{mostLines, replies, answerLines, added, after, verdict, stateAfter, fed, closed}
 use Rattle.batch.proofs.Cutting.{feeds-append, feeds-rest, length-lines}

@@ -31,7 +31,7 @@ unfoldable pub feeds : List ℕ → ℕ
 feeds [] = 0
 feeds (b ∷ l) = cond (eqb b lineFeed) (feeds l + 1) (feeds l)
 
--- how many bytes stand before the first line feed of l, or in all of it; only functions inside the crate are told by it
+-- how many bytes stand before the first line feed of l, or in all of it; only contracts of functions inside the crate cite it
 unfoldable pub lineEnd : List ℕ → ℕ
 lineEnd [] = 0
 lineEnd (b ∷ l) = cond (eqb b lineFeed) 0 (lineEnd l + 1)

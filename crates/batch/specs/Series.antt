@@ -1,7 +1,7 @@
 -- The mission's demand 3, and document 01's paragraphs on it: what every list of feed calls comes to. The sentences stand above what says them.
-use Prim.Native.Nat.{ℕ, _+_, _≤_, _<_}
+use Prim.Native.Nat.{ℕ, _+_}
 use mathlib.Core.Path.{_≡_}
-use mathlib.Core.Bool.{Bool, true, false, cond}
+use mathlib.Core.Bool.{Bool, false, cond}
 use mathlib.Core.List.{List, [], _∷_, _++_, map}
 use lib.Dec.{eqb, ltb}
 use lib.ListN.{length, take, drop}
@@ -141,7 +141,7 @@ pub record Served (cs : List Call) : Type 0 where
 unfoldable pub Always : (State → List ℕ → List ℕ → Fed → List ℕ → Type 0) → Type 0
 Always R = (cs : List Call) → Calls R fresh cs → Served cs
 
--- It is said of no empty set: every list of pieces and output spaces has its list of calls.
+-- There are such calls: every list of pieces and output spaces has its list of calls.
 unfoldable pub Possible : (State → List ℕ → List ℕ → Fed → List ℕ → Type 0) → Type 0
 Possible R = (given : List (List ℕ × List ℕ)) → (cs : List Call) × ((map (λ (c : Call). (c .piece, c .out)) cs ≡ given) × Calls R fresh cs)
 

@@ -5,7 +5,6 @@ use mathlib.Core.List.{List, [], _∷_, _++_}
 use lib.Dec.{eqb}
 use Rattle.lines.specs.Digits.{decimal}
 use Rattle.batch.specs.declared.State.{State}
-use Rattle.batch.specs.declared.Tallies.{Tallies}
 
 -- a word, and the number that follows it
 abbrev pub counted : List ℕ → ℕ → List ℕ

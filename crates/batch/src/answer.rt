@@ -9,14 +9,12 @@ use crate::held::reply_to_tail;
 use crate::scan::line_end;
 use crate::tally::counted;
 use crate::tally::total;
-use lines::Reply;
 ghost use mathlib.Core.Path.{_≡_};
 ghost use Prim.Native.Nat.{_+_, _≤_, _<_};
 ghost use lib.ListN.{length, drop};
 ghost use Rattle.lines.specs.Bytes.{put};
-ghost use Rattle.lines.specs.Reply.{told, written};
 ghost use Rattle.batch.specs.Complete.{rest, lines as Complete·lines, feeds as Complete·feeds};
-ghost use Rattle.batch.specs.Tally.{total as Tally·total, counts, plus, one};
+ghost use Rattle.batch.specs.Tally.{total as Tally·total, counts, plus};
 ghost use Rattle.batch.specs.Holding.{Sound};
 ghost use Rattle.batch.specs.Feed.{replies, answerLines, added, after, mostLines};
 

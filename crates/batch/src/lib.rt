@@ -31,8 +31,8 @@ pub const MOST_LINES: u32 = 0xffff_ffff;
 // An answer line is at most so many bytes longer than its line, each with its line feed.
 pub const MORE: usize = 5;
 
-// Room for the totals and the end's line: 42 bytes of words and seven numbers, `end=` and a number, two
-// line feeds. A number has at most ten digits.
+// Room for the totals and the end's line: 42 bytes of words, four of `end=`, two line feeds, and eight
+// numbers of at most ten digits.
 pub const TOTALS: usize = 48 + 8 * 10;
 
 // The unfinished line: its bytes, zeros past their count, or zeros alone and the mark.

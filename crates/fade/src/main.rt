@@ -74,7 +74,7 @@ fn print(text: &[u8], next: Next) -> Next {
     Next::Nothing
 }
 
-// Prints the answers to a piece that was accepted. 5 and 7 do not come.
+// Prints the answers to a piece that was accepted; 6 ends the reading. 5 and 7 do not come.
 fn print_answers(verdict: Verdict, out: &[u8]) -> Next
     requires { ⌜ ((n : ℕ) → verdict ≡ Verdict.Accepted n → n ≤ length (now out)) ⌝ }
     requires { ⌜ (verdict ≡ Verdict.Broken → ⊥) ⌝ }

@@ -1,7 +1,7 @@
 -- The format read both ways: every line of it is accepted with its values, and nothing else is. Assumes nothing.
 use borrow.Author.Tests.{eqb-true, le-ltb, eq-eqb}
 use mathlib.Core.Path.{_≡_, refl, sym, _∙_, ap}
-use mathlib.Core.Bool.{Bool, true, false, not, cond, _&&_, true≢false}
+use mathlib.Core.Bool.{Bool, true, false, cond, _&&_, true≢false}
 use mathlib.Core.List.{List, [], _∷_, _++_, append-assoc, append-nil}
 use Prim.Native.Nat.{ℕ, _+_, _≤_, _<_, _^_}
 use native.Mathlib.Nat.{add-assoc}
@@ -15,7 +15,7 @@ use Rattle.lines.specs.Digits.{places, decimal, hex, isDecimal, isHex, v
 use Rattle.lines.specs.Fields.{keyOf}
 use Rattle.lines.specs.Format.{longest, largestId, idKey, xKey, yKey, space, lineOf, InRange, Format}
 use Rattle.lines.specs.Format.{idDigits, isD, hasId, afterId, hexDigits, hasHex, hasX, afterX, hasY, readLine}
-use Rattle.lines.specs.declared.Line.the-variants.{Pair, TooLong, NoId, NoX, NoY}
+use Rattle.lines.specs.declared.Line.the-variants.{Pair}
 use Rattle.lines.proofs.Numerals.{both, sixteen, length-decimal, length-hex, all-decimal, all-hex, places-monotone, value-below}
 use Rattle.lines.proofs.Numerals.{is-d, decimal-is-d, decimal-value, value-decimal, value-hex, hex-value}
 use Rattle.lines.proofs.Reading.{inside}

@@ -99,8 +99,8 @@ fn read_id(line: &[u8]) -> Field
     }
 }
 
-// Whether the eight bytes at a place are hexadecimal digits. All eight are looked at: which of them
-// are letters is no pattern that a branch could foresee.
+// Whether the eight bytes at a place are hexadecimal digits. All eight are looked at, with no branch
+// on any: a processor cannot predict which digits are letters.
 fn all_hex(line: &[u8], from: usize) -> bool
     requires { ⌜ from + 8 ≤ length (now line) ⌝ }
     ensures { λ r. ⌜ r ≡ all isHex (eightAt from (now (line .entry))) ⌝ }

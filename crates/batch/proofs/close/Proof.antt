@@ -1,7 +1,7 @@
 -- `close` meets its contract. Assumes nothing.
 use borrow.Author.Needs.{needs}
 use borrow.Author.Tests.{eq-eqb, ne-eqb}
-use mathlib.Core.Path.{_≡_, refl, sym, ap, _∙_}
+use mathlib.Core.Path.{sym, _∙_}
 use Rattle.batch.specs.Feed.{closed}
 use Rattle.batch.proofs.close.Statement.{statement}
 use Rattle.batch.proofs.close.Tie as tie

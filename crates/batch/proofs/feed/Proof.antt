@@ -5,7 +5,7 @@ use Prim.Native.Nat.{ℕ, _+_, _≤_}
 use native.Mathlib.Nat.{zero-add}
 use native.Mathlib.Omega.{arith}
 use mathlib.Core.Path.{_≡_, refl, sym, ap, _∙_}
-use mathlib.Core.Bool.{Bool, true, false, cond}
+use mathlib.Core.Bool.{Bool, true, false}
 use mathlib.Core.List.{List, _++_, map}
 use lib.Dec.{ltb}
 use lib.ListN.{length, drop, length-map}
@@ -16,8 +16,7 @@ use Rattle.batch.specs.declared.Fed.{Fed}
 use Rattle.batch.specs.declared.Verdict.{Verdict}
 use Rattle.batch.specs.declared.Verdict.the-variants.{Accepted, Broken, TooManyLines, NoRoom}
 use Rattle.batch.specs.Complete.{linesFrom, feeds}
-use Rattle.batch.specs.Tally.{total}
-use Rattle.batch.specs.Holding.{carried, Sound, broken}
+use Rattle.batch.specs.Holding.{carried, broken}
 use Rattle.batch.specs.Feed.{mostLines, answerLines, added, after, verdict, stateAfter, outAfter, fed, Did}
 use Rattle.batch.proofs.Unbroken.{tail-sound, adds-up}
 use Rattle.batch.proofs.feed.Statement.{statement}

@@ -15,25 +15,19 @@ use Rattle.batch.specs.declared.Fed.{Fed}
 use Rattle.batch.specs.Complete.{feeds}
 use Rattle.batch.specs.Holding.{overLong, broken}
 use Rattle.batch.specs.Feed.{more, mostLines, answerLines, added, verdict, fed}
+use Rattle.batch.specs.Series.{said}
 use Rattle.batch.proofs.Room.{never-seven}
 use Rattle.batch.proofs.Unbroken.{feed-not-five, fed-unbroken}
 use Rattle.fade.proofs.read_piece.Statement.{statement}
 use Rattle.fade.proofs.read_piece.Tie as tie
 
--- how many bytes a feed says that it wrote
-abbrev wrote : Verdict → ℕ
-wrote (Accepted n) = n
-wrote Broken = 0
-wrote TooManyLines = 0
-wrote NoRoom = 0
-
--- they are no more than the output has
-wrote-within : (s : State) (p : List ℕ) (room : ℕ) → wrote (verdict s p room) ≤ room
-unfolding verdict
+-- a feed says that it wrote no more than the output has
+wrote-within : (s : State) (p : List ℕ) (room : ℕ) → said (verdict s p room) ≤ room
+unfolding verdict said
 wrote-within s p room = by (broken s) (ltb mostLines (s .lines + feeds p)) (ltb room (length (answerLines (added s p)))) refl
   where
     by : (b m r : Bool) → ltb room (length (answerLines (added s p))) ≡ r
-        → wrote (cond b Broken (cond m TooManyLines (cond r NoRoom (Accepted (length (answerLines (added s p))))))) ≤ room
+        → said (cond b Broken (cond m TooManyLines (cond r NoRoom (Accepted (length (answerLines (added s p))))))) ≤ room
     by true m r e = zero-le
     by false true r e = zero-le
     by false false true e = zero-le
@@ -45,7 +39,7 @@ part-not-seven s l n k room e h = never-seven s (take n l) room (let t : length 
 
 -- what the feed answered, as the definition says it
 print-answers-requires : tie.Need-print-answers-requires
-unfolding fed
+unfolding fed said
 print-answers-requires c κs =
     let v = ap (λ (r : Fed). r .verdict) (c .before .before .before .before .feed .ensures .result) in (
       λ n e. rw (c .before .before .before .before .feed .kept .1 .1 .0) (told n _ _ _ _ v e),
@@ -56,7 +50,7 @@ print-answers-requires c κs =
     )
   where
     told : (n : ℕ) (s : State) (p : List ℕ) (room : ℕ) (v : Verdict) → v ≡ fed s p room .verdict → v ≡ Accepted n → n ≤ room
-    told n s p room v r g = subst (λ (k : Verdict). wrote k ≤ room) (sym r ∙ g) (wrote-within s p room)
+    told n s p room v r g = subst (λ (k : Verdict). said k ≤ room) (sym r ∙ g) (wrote-within s p room)
 
 returns-3 : tie.Need-returns-3
 returns-3 c = ap (λ (r : Fed). broken (r .state)) (c .before .before .before .before .before .feed .ensures .result) ∙ fed-unbroken _ (c .before .before .before .before .before .before .before .before .before .before .before .before .before .before .before .before .before .before .pre .0) _ _

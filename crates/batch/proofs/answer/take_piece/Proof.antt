@@ -3,8 +3,8 @@ use borrow.Author.Needs.{needs}
 use Prim.Native.Nat.{ℕ, _+_, _-_, _≤_, _<_}
 use native.Mathlib.Nat.{add-zero, zero-add}
 use native.Mathlib.Omega.{arith}
-use mathlib.Core.Path.{_≡_, refl, sym, ap, _∙_}
-use mathlib.Core.List.{List, [], _∷_, _++_}
+use mathlib.Core.Path.{_≡_, sym, ap, _∙_}
+use mathlib.Core.List.{List, [], _++_}
 use lib.ListN.{length, take, drop, length-append}
 use lib.Seq.{length-take-le, take-all}
 use Rattle.lines.specs.Bytes.{put}
@@ -17,7 +17,7 @@ use Rattle.batch.specs.declared.Fed.{Fed}
 use Rattle.batch.specs.declared.Verdict.the-variants.{Accepted}
 use Rattle.batch.specs.Complete.{restFrom, lines, rest, feeds, lineEnd}
 use Rattle.batch.specs.Tally.{one, plus, counts, total}
-use Rattle.batch.specs.Holding.{zeros, hold, carried, Sound}
+use Rattle.batch.specs.Holding.{zeros, hold, carried}
 use Rattle.batch.specs.Feed.{mostLines, replies, joined, answerLines, added, after}
 use Rattle.batch.proofs.Cutting.{FirstLine, NoLine, front-line, front-none, front-within, front-before, to-end}
 use Rattle.batch.proofs.Holds.{sound-as}

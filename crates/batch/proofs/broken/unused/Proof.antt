@@ -1,6 +1,5 @@
 -- `unused` meets its contract. Assumes nothing.
 use borrow.Author.Needs.{needs}
-use mathlib.Core.Path.{sym}
 use borrow.Author.Tests.{eq-eqb, ne-eqb}
 use Rattle.batch.specs.Holding.{overLong, unused}
 use Rattle.batch.proofs.broken.unused.Statement.{statement}

@@ -1,11 +1,10 @@
 -- `zeros_from` meets its contract: what is left to look at decides. Assumes nothing.
 use borrow.Author.Needs.{needs}
-use Prim.Native.Nat.{ℕ, _+_, _-_, _≤_}
+use Prim.Native.Nat.{_-_}
 use mathlib.Core.Path.{_≡_, refl, sym, ap, _∙_}
 use lib.Dec.{eqb}
 use lib.ListN.{length, drop, drop-of-length-le}
 use borrow.Author.Tests.{eq-eqb, ne-eqb}
-use native.Mathlib.Omega.{arith}
 use Rattle.lines.specs.Bytes.{all}
 use Rattle.batch.proofs.Scanned.{fails-here, passes-here}
 use Rattle.batch.proofs.broken.zeros_from.Statement.{statement}

@@ -5,16 +5,16 @@ use Prim.Native.Nat.{ℕ, _+_, _-_, _≤_, _<_}
 use native.Mathlib.Omega.{arith}
 use mathlib.Core.Path.{_≡_, refl, sym, ap, _∙_}
 use mathlib.Core.Bool.{true, false}
-use mathlib.Core.List.{List, [], _∷_, _++_}
+use mathlib.Core.List.{List, _++_}
 use lib.Dec.{leb}
-use lib.ListN.{length, take, drop, length-append}
+use lib.ListN.{length, take, drop}
 use lib.Seq.{length-take-le}
 use Rattle.lines.specs.Reply.{Told, replyTo, written}
 use Rattle.batch.specs.declared.Tail.{Tail}
 use Rattle.batch.specs.Complete.{linesFrom, lines, lineEnd}
-use Rattle.batch.specs.Holding.{hold, carried, Sound}
+use Rattle.batch.specs.Holding.{hold, carried}
 use Rattle.batch.specs.Feed.{replies, joined, answerLines}
-use Rattle.batch.proofs.Cutting.{FirstLine, NoLine, front-line, front-none, front-within, front-before}
+use Rattle.batch.proofs.Cutting.{front-line, front-none, front-within, front-before}
 use Rattle.batch.proofs.Holds.{sound-as}
 use Rattle.batch.proofs.Replied.{first-length, fits-after, reply-tail}
 use Rattle.batch.proofs.measure.fits.Statement.{statement}

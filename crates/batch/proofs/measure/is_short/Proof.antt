@@ -1,7 +1,7 @@
 -- `is_short` meets its contract: room for any answers is enough, and else the answers are measured. Assumes nothing.
 use borrow.Author.Needs.{needs}
 use borrow.Author.Tests.{le-ltb, lt-ltb, leb-true, leb-false}
-use Prim.Native.Nat.{ℕ, _+_, _*_, _≤_, _<_}
+use Prim.Native.Nat.{ℕ, _+_, _*_, _≤_}
 use native.Mathlib.Omega.{arith}
 use mathlib.Core.Path.{_≡_, refl, sym, ap, _∙_}
 use mathlib.Core.Bool.{Bool, true, false, not}
@@ -9,7 +9,7 @@ use mathlib.Core.List.{List}
 use lib.Dec.{leb, ltb}
 use lib.ListN.{length}
 use Rattle.batch.specs.declared.Tail.{Tail}
-use Rattle.batch.specs.Complete.{linesFrom, restFrom, feeds}
+use Rattle.batch.specs.Complete.{linesFrom, feeds}
 use Rattle.batch.specs.Holding.{carried, Sound}
 use Rattle.batch.specs.Feed.{more, answerLines}
 use Rattle.batch.proofs.Holds.{held-length}

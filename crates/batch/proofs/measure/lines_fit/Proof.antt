@@ -5,13 +5,13 @@ use Prim.Native.Nat.{ℕ, _+_, _-_, _≤_, _<_}
 use native.Mathlib.Omega.{arith}
 use mathlib.Core.Path.{_≡_, refl, sym, ap, _∙_}
 use mathlib.Core.Bool.{Bool, true, false}
-use mathlib.Core.List.{List, [], _∷_, _++_}
+use mathlib.Core.List.{List, []}
 use lib.Dec.{leb}
-use lib.ListN.{length, take, drop, length-append}
+use lib.ListN.{length, take, drop}
 use Rattle.lines.specs.Reply.{Told, replyTo, written}
 use Rattle.batch.specs.Complete.{lines, lineEnd}
 use Rattle.batch.specs.Feed.{replies, joined, answerLines}
-use Rattle.batch.proofs.Cutting.{FirstLine, NoLine, line-here, none-here}
+use Rattle.batch.proofs.Cutting.{line-here, none-here}
 use Rattle.batch.proofs.Replied.{first-length, fits-after}
 use Rattle.batch.proofs.measure.lines_fit.Statement.{statement}
 use Rattle.batch.proofs.measure.lines_fit.Tie as tie

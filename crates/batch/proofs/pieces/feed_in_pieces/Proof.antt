@@ -2,10 +2,9 @@
 use borrow.Author.Needs.{needs}
 use Prim.Native.Nat.{ℕ, _+_, _-_, _≤_, _<_}
 use native.Mathlib.Omega.{arith}
-use mathlib.Core.Path.{_≡_, refl, sym, ap, _∙_}
-use mathlib.Core.List.{List, [], _∷_, _++_}
-use lib.ListN.{length, take, drop}
-use Rattle.batch.specs.declared.State.{State}
+use mathlib.Core.Path.{_≡_, ap}
+use mathlib.Core.List.{List, []}
+use lib.ListN.{length}
 use lib.Dec.{eqb}
 use Rattle.batch.specs.declared.Verdict.{Verdict}
 use Rattle.batch.specs.Feed.{number}

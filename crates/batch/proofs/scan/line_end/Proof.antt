@@ -1,7 +1,7 @@
 -- `line_end` meets its contract: as far as it has come there is no line feed. Assumes nothing.
 use borrow.Author.Needs.{needs}
 use Prim.Native.Nat.{ℕ, _+_, _-_, _≤_}
-use mathlib.Core.Path.{_≡_, refl, sym, ap, _∙_}
+use mathlib.Core.Path.{_≡_, sym, ap}
 use lib.ListN.{length, drop, drop-of-length-le}
 use native.Mathlib.Omega.{arith}
 use Rattle.batch.specs.Complete.{lineEnd}

@@ -1,7 +1,7 @@
 -- `line_feeds` meets its contract: those found and those to come are all. Assumes nothing.
 use borrow.Author.Needs.{needs}
 use Prim.Native.Nat.{ℕ, _+_, _-_, _≤_}
-use mathlib.Core.Path.{_≡_, refl, sym, ap, _∙_}
+use mathlib.Core.Path.{_≡_, refl, ap}
 use mathlib.Core.Logic.{⊎-elim}
 use lib.ListN.{length, drop, drop-of-length-le}
 use native.Mathlib.Omega.{arith}

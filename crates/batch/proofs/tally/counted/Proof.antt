@@ -1,12 +1,12 @@
 -- `counted` meets its contract: no tally is more than all six together, so that one more fits. Assumes nothing.
 use borrow.Author.Needs.{needs}
-use Prim.Native.Nat.{ℕ, _+_}
+use Prim.Native.Nat.{ℕ}
 use native.Mathlib.Nat.{add-zero}
 use mathlib.Core.Path.{_≡_, refl, sym, ap, _∙_}
 use Rattle.compound.specs.declared.Answer.{Answer}
 use Rattle.compound.specs.Answer.{Via, rule, whole, edge, fast, slow, outcome}
 use Rattle.lines.specs.declared.Reply.{Reply}
-use Rattle.lines.specs.declared.Reply.the-variants.{Answered, Bad}
+use Rattle.lines.specs.declared.Reply.the-variants.{Answered}
 use Rattle.lines.specs.Reply.{told}
 use Rattle.batch.specs.declared.Tallies.{Tallies}
 use Rattle.batch.specs.Tally.{byRoute, one, plus, total}
