@@ -22,10 +22,7 @@ returns c = rw (lt-ltb _ _ (c .if1 .taken))
 returns-2 : tie.Need-returns-2
 unfolding broken
 returns-2 c =
-    rw (le-ltb _ _ (c .before .before .before .before .if1 .left), lt-ltb 0 _ (some _ _ (c .if2 .taken) (c .before .line-feeds .ensures)))
-  where
-    some : (n f : ℕ) → 0 < n → n ≡ f → 0 < f
-    some n f h e = omega arith
+    rw (le-ltb _ _ (c .before .before .before .before .if1 .left), lt-ltb 0 (feeds (c .before .before .before .before .before .before .before .args .state .tail .bytes)) (omega (arith, c .if2 .taken, c .before .line-feeds .ensures)))
 
 -- no byte 10 in the tail
 no-feed : (n f : ℕ) → n ≤ 0 → n ≡ f → f ≤ 0
