@@ -36,12 +36,14 @@ pub const MORE: usize = 5;
 pub const TOTALS: usize = 48 + 8 * 10;
 
 // The unfinished line: its bytes, zeros past their count, or zeros alone and the mark.
+#[repr(C)]
 pub struct Tail {
     pub bytes: [u8; LONGEST],
     pub count: u32,
 }
 
 // How many lines took each route, and how many were bad.
+#[repr(C)]
 pub struct Tallies {
     pub rule: u32,
     pub whole: u32,
@@ -52,6 +54,7 @@ pub struct Tallies {
 }
 
 // What is carried from one piece to the next.
+#[repr(C)]
 pub struct State {
     pub tail: Tail,
     pub lines: u32,
