@@ -2,6 +2,7 @@
 pub mod Complete
 pub mod Tally
 pub mod Holding
+pub mod Carry
 pub mod Feed
 pub mod Totals
 pub mod Series

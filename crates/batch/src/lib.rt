@@ -4,6 +4,7 @@
 // and what a series of feeds comes to in specs/Series.antt.
 mod answer;
 mod broken;
+mod carry;
 mod held;
 mod measure;
 mod pieces;
