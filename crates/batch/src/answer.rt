@@ -3,8 +3,8 @@ use crate::Fed;
 use crate::State;
 use crate::Tallies;
 use crate::Verdict;
+use crate::carry::carry_on;
 use crate::held::empty;
-use crate::held::extended;
 use crate::held::reply_to_tail;
 use crate::scan::line_end;
 use crate::tally::counted;
@@ -37,8 +37,9 @@ pub(crate) fn take_piece(state: State, piece: &[u8], out: &mut [u8]) -> Fed
 {
     let tail = state.tail;
     let tallies = state.tallies;
-    let end = line_end(piece, 0);
-    let line = extended(tail, &piece[..end]);
+    let first = carry_on(tail, piece, 0);
+    let line = first.tail;
+    let end = first.end;
     if end == piece.len() {
         return Fed {
             state: State {
@@ -52,12 +53,12 @@ pub(crate) fn take_piece(state: State, piece: &[u8], out: &mut [u8]) -> Fed
     let reply = reply_to_tail(line);
     let at = lines::write_reply(reply, out, 0);
     let done = answer_lines(piece, end + 1, counted(tallies, reply), out, at);
-    let from = done.from;
-    let left = extended(empty(), &piece[from..]);
+    let left = carry_on(empty(), piece, done.from);
+    let held = left.tail;
     let counts = done.tallies;
     Fed {
         state: State {
-            tail: left,
+            tail: held,
             lines: total(counts) as u32,
             tallies: counts,
         },

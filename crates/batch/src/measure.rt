@@ -2,7 +2,7 @@
 use crate::MORE;
 use crate::MOST_LINES;
 use crate::Tail;
-use crate::held::extended;
+use crate::carry::carry_on;
 use crate::held::reply_to_tail;
 use crate::scan::line_end;
 use crate::scan::line_feeds;
@@ -64,15 +64,17 @@ fn fits(tail: Tail, piece: &[u8], room: usize) -> bool
     requires { ⌜ Sound tail ⌝ }
     ensures { λ r. ⌜ r ≡ leb (length (answerLines (linesFrom (carried tail) (now (piece .entry))))) room ⌝ }
 {
-    let end = line_end(piece, 0);
+    let first = carry_on(tail, piece, 0);
+    let end = first.end;
     if end == piece.len() {
         return true;
     }
-    let first = lines::reply_length(reply_to_tail(extended(tail, &piece[..end])));
-    if first > room {
+    let line = first.tail;
+    let n = lines::reply_length(reply_to_tail(line));
+    if n > room {
         return false;
     }
-    lines_fit(piece, end + 1, room - first)
+    lines_fit(piece, end + 1, room - n)
 }
 
 // Whether the answer lines of the complete lines from `from` on fit into `room`.

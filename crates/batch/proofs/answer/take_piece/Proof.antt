@@ -1,12 +1,12 @@
 -- `take_piece` meets its contract: the line that the tail holds first, then the other lines, then what is left. Assumes nothing.
 use borrow.Author.Needs.{needs}
-use Prim.Native.Nat.{ℕ, _+_, _-_, _≤_, _<_}
+use Prim.Native.Nat.{ℕ, _+_, _≤_, _<_}
 use native.Mathlib.Nat.{add-zero, zero-add}
 use native.Mathlib.Omega.{arith}
-use mathlib.Core.Path.{_≡_, sym, ap, _∙_}
+use mathlib.Core.Path.{_≡_, refl, sym, ap, _∙_}
 use mathlib.Core.List.{List, [], _++_}
 use lib.ListN.{length, take, drop, length-append}
-use lib.Seq.{length-take-le, take-all}
+use lib.Seq.{take-all}
 use Rattle.lines.specs.Bytes.{put}
 use Rattle.lines.specs.Reply.{Told, replyTo, written}
 use Rattle.lines.proofs.Put.{length-put, put-put, put-nothing}
@@ -14,12 +14,15 @@ use Rattle.batch.specs.declared.Tail.{Tail}
 use Rattle.batch.specs.declared.Tallies.{Tallies}
 use Rattle.batch.specs.declared.State.{State}
 use Rattle.batch.specs.declared.Fed.{Fed}
+use Rattle.batch.specs.declared.carry.Carried.{Carried}
 use Rattle.batch.specs.declared.Verdict.the-variants.{Accepted}
 use Rattle.batch.specs.Complete.{restFrom, lines, rest, feeds, lineEnd}
 use Rattle.batch.specs.Tally.{one, plus, counts, total}
 use Rattle.batch.specs.Holding.{zeros, hold, carried}
+use Rattle.batch.specs.Carry.{carryOn}
 use Rattle.batch.specs.Feed.{mostLines, replies, joined, answerLines, added, after}
-use Rattle.batch.proofs.Cutting.{FirstLine, NoLine, front-line, front-none, front-within, front-before, to-end}
+use Rattle.batch.proofs.Cutting.{FirstLine, NoLine, front-line, front-none, front-before, feeds-rest}
+use Rattle.batch.proofs.CarriedOn.{first-end, first-held, rest-held}
 use Rattle.batch.proofs.Holds.{sound-as}
 use Rattle.batch.proofs.Replied.{first-answer, first-count, lines-total, plus-assoc, plus-none, total-plus, total-one, reply-tail}
 use Rattle.batch.proofs.answer.take_piece.Statement.{statement}
@@ -34,9 +37,9 @@ module _ (s : State) (p : List ℕ) where
   fed-is t n u k a b c d = cc
 
   -- no line ends in the piece
-  module _ (end : ℕ) (e : end ≡ 0 + lineEnd p) (g : end ≡ length p) where
+  module _ (first : Carried) (e : first ≡ carryOn (s .tail) p 0) (g : first .end ≡ length p) where
     none : NoLine (carried (s .tail)) p
-    none = front-none p end e (carried (s .tail)) g
+    none = front-none p (first .end) (first-end (s .tail) p first e) (carried (s .tail)) g
 
     none-answers : answerLines (added s p) ≡ []
     unfolding added answerLines replies joined
@@ -46,11 +49,11 @@ module _ (s : State) (p : List ℕ) where
     unfolding added counts replies
     none-counts = sym (ap (λ (k : List (List ℕ)). plus (s .tallies) (counts (replies k))) (none .no-lines) ∙ plus-none (s .tallies))
 
-    none-fed : (t : Tail) → t ≡ hold (carried (s .tail) ++ take end p)
-        → _≡_ {A = Fed} (record { state = record { tail = t; lines = s .lines; tallies = s .tallies }; verdict = Accepted 0 }) (record { state = after s p; verdict = Accepted (length (answerLines (added s p))) })
-    none-fed t f =
-        fed-is t (s .lines) (s .tallies) 0
-        (f ∙ ap (λ (k : List ℕ). hold (carried (s .tail) ++ k)) (take-all end p (omega arith)) ∙ ap hold (sym (none .all-rest)))
+    none-fed : _≡_ {A = Fed} (record { state = record { tail = first .tail; lines = s .lines; tallies = s .tallies }; verdict = Accepted 0 })
+        (record { state = after s p; verdict = Accepted (length (answerLines (added s p))) })
+    none-fed =
+        fed-is (first .tail) (s .lines) (s .tallies) 0
+        (first-held (s .tail) p first e ∙ ap (λ (k : List ℕ). hold (carried (s .tail) ++ k)) (take-all (first .end) p (omega arith)) ∙ ap hold (sym (none .all-rest)))
         (sym (ap (λ (k : ℕ). s .lines + k) (none .no-feeds) ∙ add-zero (s .lines)))
         none-counts
         (sym (ap length none-answers))
@@ -64,11 +67,15 @@ record Cut (s : State) (p : List ℕ) (end : ℕ) (r : Told) : Type 0 where
   pub inside : end + 1 ≤ length p
   pub reply : r ≡ replyTo (carried (s .tail) ++ take end p)
 
-cut : (s : State) (p : List ℕ) (end : ℕ) (r : Told) → end ≡ 0 + lineEnd p → (end ≡ length p → ⊥) → (t : Tail) → t ≡ hold (carried (s .tail) ++ take end p) → r ≡ replyTo (carried t)
-    → Cut s p end r
-cut s p end r e n t f h =
-    let g : end < length p = front-before p end e n in
-    record { line = front-line p end e (carried (s .tail)) g; inside = omega arith; reply = h ∙ reply-tail t (carried (s .tail) ++ take end p) f }
+cut : (s : State) (p : List ℕ) (first : Carried) (r : Told) → first ≡ carryOn (s .tail) p 0 → (first .end ≡ length p → ⊥) → r ≡ replyTo (carried (first .tail)) → Cut s p (first .end) r
+cut s p first r e n h =
+    let e′ : first .end ≡ 0 + lineEnd p = first-end (s .tail) p first e in
+    let g : first .end < length p = front-before p (first .end) e′ n in
+    record {
+      line = front-line p (first .end) e′ (carried (s .tail)) g;
+      inside = omega arith;
+      reply = h ∙ reply-tail (first .tail) (carried (s .tail) ++ take (first .end) p) (first-held (s .tail) p first e);
+    }
 
 -- the answer lines of the lines after the first
 abbrev others : List ℕ → ℕ → List ℕ
@@ -136,65 +143,68 @@ module _ (s : State) (p : List ℕ) (end : ℕ) (r : Told) (d : Cut s p end r) w
             let f : feeds p ≡ feeds (drop (end + 1) p) + 1 = d .line .its-feeds in
             omega arith
 
-  -- the tail: what the lines leave, held from an empty one
-  left-held : (from : ℕ) → drop from p ≡ rest (drop (end + 1) p) → (empty t : Tail) → empty ≡ record { bytes = zeros; count = 0 }
-      → t ≡ hold (carried empty ++ take (length p - from) (drop from p)) → t ≡ hold (restFrom (carried (s .tail)) p)
+  -- the tail: what the lines leave, carried on from an empty one
+  no-feeds : feeds (rest (drop (end + 1) p)) ≡ 0
+  unfolding rest feeds
+  no-feeds = feeds-rest (drop (end + 1) p) [] refl
+
+  left-held : (from : ℕ) → drop from p ≡ rest (drop (end + 1) p) → (empty : Tail) (left : Carried) → empty ≡ record { bytes = zeros; count = 0 }
+      → left ≡ carryOn empty p from → left .tail ≡ hold (restFrom (carried (s .tail)) p)
   unfolding carried
-  left-held from h empty t f k =
-      k
-      ∙ ap (λ (m : Tail). hold (carried m ++ take (length p - from) (drop from p))) f
-      ∙ ap hold (to-end p from ∙ h ∙ sym (d .line .its-rest))
+  left-held from h empty left f k =
+      rest-held empty p from left k (ap feeds h ∙ no-feeds)
+      ∙ ap (λ (m : Tail). hold (carried m ++ drop from p)) f
+      ∙ ap hold (h ∙ sym (d .line .its-rest))
 
 -- the empty tail holds nothing
 holds-nothing : (t : Tail) → t ≡ record { bytes = zeros; count = 0 } → t ≡ hold []
 unfolding hold
 holds-nothing t e = e
 
-slice-aggregate-extended : tie.Need-slice-aggregate-extended
-slice-aggregate-extended c = sym (length-take-le _ _ (front-within _ _ (c .before .line-end .ensures)))
-
 returns : tie.Need-returns
-returns c = (none-fed _ _ _ (c .before .before .before .line-end .ensures) (c .if1 .taken) _ (c .before .extended .ensures), none-out _ _ _ (c .before .before .before .line-end .ensures) (c .if1 .taken) _)
+returns c = (none-fed _ _ _ (c .before .before .carry-on .ensures) (c .if1 .taken), none-out _ _ _ (c .before .before .carry-on .ensures) (c .if1 .taken) _)
 
 reply-to-tail-requires : tie.Need-reply-to-tail-requires
-reply-to-tail-requires c κs = sound-as _ _ (c .before .extended .ensures)
+reply-to-tail-requires c κs = sound-as _ _ (first-held _ _ _ (c .before .before .carry-on .ensures))
 
 write-reply-requires : tie.Need-write-reply-requires
-write-reply-requires c κs = first-room _ _ _ _ (cut (c .before .before .before .before .before .before .before .before .before .before .args .state) _ _ _ (c .before .before .before .before .before .line-end .ensures) (c .before .before .if1 .left) _ (c .before .before .before .extended .ensures) (c .before .reply-to-tail .ensures)) (c .before .before .before .before .before .before .before .before .before .before .args .out .now) (c .before .before .before .before .before .before .before .before .before .before .pre .1 .1 .1)
+write-reply-requires c κs = first-room _ _ _ _ (cut (c .before .before .before .before .before .before .before .before .before .args .state) _ _ _ (c .before .before .before .before .carry-on .ensures) (c .before .before .if1 .left) (c .before .reply-to-tail .ensures)) (c .before .before .before .before .before .before .before .before .before .args .out .now) (c .before .before .before .before .before .before .before .before .before .pre .1 .1 .1)
 
 add-answer-lines : tie.Need-add-answer-lines
-add-answer-lines c = omega (arith, front-before (c .before .before .before .before .before .before .before .before .before .before .before .before .before .args .piece .now) (c .before .before .before .before .before .before .before .before .line-end .result) (c .before .before .before .before .before .before .before .before .line-end .ensures) (c .before .before .before .before .before .if1 .left))
+add-answer-lines c = omega (arith, inside-of _ _ _ _ (cut (c .before .before .before .before .before .before .before .before .before .before .before .before .args .state) _ _ _ (c .before .before .before .before .before .before .before .carry-on .ensures) (c .before .before .before .before .before .if1 .left) (c .before .before .before .before .reply-to-tail .ensures)))
 
 counted-requires : tie.Need-counted-requires
-counted-requires c κs = first-counts _ _ _ _ (cut (c .before .before .before .before .before .before .before .before .before .before .before .before .before .args .state) _ _ _ (c .before .before .before .before .before .before .before .before .line-end .ensures) (c .before .before .before .before .before .if1 .left) _ (c .before .before .before .before .before .before .extended .ensures) (c .before .before .before .before .reply-to-tail .ensures)) (c .before .before .before .before .before .before .before .before .before .before .before .before .before .pre .1 .0) (c .before .before .before .before .before .before .before .before .before .before .before .before .before .pre .1 .1 .0)
+counted-requires c κs = first-counts _ _ _ _ (cut (c .before .before .before .before .before .before .before .before .before .before .before .before .args .state) _ _ _ (c .before .before .before .before .before .before .before .carry-on .ensures) (c .before .before .before .before .before .if1 .left) (c .before .before .before .before .reply-to-tail .ensures)) (c .before .before .before .before .before .before .before .before .before .before .before .before .pre .1 .0) (c .before .before .before .before .before .before .before .before .before .before .before .before .pre .1 .1 .0)
 
 answer-lines-requires : tie.Need-answer-lines-requires
 answer-lines-requires c κs = (
-  inside-of _ _ _ _ (cut (c .before .before .before .before .before .before .before .before .before .before .before .before .before .before .before .args .state) _ _ _ (c .before .before .before .before .before .before .before .before .before .before .line-end .ensures) (c .before .before .before .before .before .before .before .if1 .left) _ (c .before .before .before .before .before .before .before .before .extended .ensures) (c .before .before .before .before .before .before .reply-to-tail .ensures)),
+  inside-of _ _ _ _ (cut (c .before .before .before .before .before .before .before .before .before .before .before .before .before .before .args .state) _ _ _ (c .before .before .before .before .before .before .before .before .before .carry-on .ensures) (c .before .before .before .before .before .before .before .if1 .left) (c .before .before .before .before .before .before .reply-to-tail .ensures)),
   (
-    others-count _ _ _ _ (cut (c .before .before .before .before .before .before .before .before .before .before .before .before .before .before .before .args .state) _ _ _ (c .before .before .before .before .before .before .before .before .before .before .line-end .ensures) (c .before .before .before .before .before .before .before .if1 .left) _ (c .before .before .before .before .before .before .before .before .extended .ensures) (c .before .before .before .before .before .before .reply-to-tail .ensures)) (c .before .before .before .before .before .before .before .before .before .before .before .before .before .before .before .pre .1 .0) (c .before .before .before .before .before .before .before .before .before .before .before .before .before .before .before .pre .1 .1 .0) _ (c .before .counted .ensures),
-    others-room _ _ _ _ (cut (c .before .before .before .before .before .before .before .before .before .before .before .before .before .before .before .args .state) _ _ _ (c .before .before .before .before .before .before .before .before .before .before .line-end .ensures) (c .before .before .before .before .before .before .before .if1 .left) _ (c .before .before .before .before .before .before .before .before .extended .ensures) (c .before .before .before .before .before .before .reply-to-tail .ensures)) _ (c .before .before .before .before .before .before .before .before .before .before .before .before .before .before .before .pre .1 .1 .1) _ _ (c .before .before .before .before .write-reply .ensures .1) (c .before .before .before .before .write-reply .ensures .0),
+    others-count _ _ _ _ (cut (c .before .before .before .before .before .before .before .before .before .before .before .before .before .before .args .state) _ _ _ (c .before .before .before .before .before .before .before .before .before .carry-on .ensures) (c .before .before .before .before .before .before .before .if1 .left) (c .before .before .before .before .before .before .reply-to-tail .ensures)) (c .before .before .before .before .before .before .before .before .before .before .before .before .before .before .pre .1 .0) (c .before .before .before .before .before .before .before .before .before .before .before .before .before .before .pre .1 .1 .0) _ (c .before .counted .ensures),
+    others-room _ _ _ _ (cut (c .before .before .before .before .before .before .before .before .before .before .before .before .before .before .args .state) _ _ _ (c .before .before .before .before .before .before .before .before .before .carry-on .ensures) (c .before .before .before .before .before .before .before .if1 .left) (c .before .before .before .before .before .before .reply-to-tail .ensures)) _ (c .before .before .before .before .before .before .before .before .before .before .before .before .before .before .pre .1 .1 .1) _ _ (c .before .before .before .before .write-reply .ensures .1) (c .before .before .before .before .write-reply .ensures .0),
   ),
 )
 
-extended-requires-2 : tie.Need-extended-requires-2
-extended-requires-2 c κs = sound-as _ _ (holds-nothing _ (c .before .empty .ensures))
+carry-on-requires : tie.Need-carry-on-requires
+carry-on-requires c κs = (omega arith, c .before .before .before .before .pre .0)
 
-cast-t30 : tie.Need-cast-t30
-cast-t30 c = omega (arith, all-lines _ _ _ _ (cut (c .before .before .before .before .before .before .before .before .before .before .before .before .before .before .before .before .before .before .before .before .before .before .before .args .state) _ _ _ (c .before .before .before .before .before .before .before .before .before .before .before .before .before .before .before .before .before .before .line-end .ensures) (c .before .before .before .before .before .before .before .before .before .before .before .before .before .before .before .if1 .left) _ (c .before .before .before .before .before .before .before .before .before .before .before .before .before .before .before .before .extended .ensures) (c .before .before .before .before .before .before .before .before .before .before .before .before .before .before .reply-to-tail .ensures)) (c .before .before .before .before .before .before .before .before .before .before .before .before .before .before .before .before .before .before .before .before .before .before .before .pre .1 .0) (c .before .before .before .before .before .before .before .before .before .before .before .before .before .before .before .before .before .before .before .before .before .before .before .pre .1 .1 .0) _ (c .before .before .before .before .before .before .before .before .before .counted .ensures) _ (c .before .before .before .before .before .before .before .answer-lines .ensures .1 .1 .0) _ (c .total .ensures), (c .before .before .before .before .before .before .before .before .before .before .before .before .before .before .before .before .before .before .before .before .before .before .before .pre .1 .1 .0))
+carry-on-requires-2 : tie.Need-carry-on-requires-2
+carry-on-requires-2 c κs = (c .before .before .before .answer-lines .ensures .1 .0 .0, sound-as _ _ (holds-nothing _ (c .empty .ensures)))
+
+cast-t26 : tie.Need-cast-t26
+cast-t26 c = omega (arith, all-lines _ _ _ _ (cut (c .before .before .before .before .before .before .before .before .before .before .before .before .before .before .before .before .before .before .before .before .before .before .args .state) _ _ _ (c .before .before .before .before .before .before .before .before .before .before .before .before .before .before .before .before .before .carry-on .ensures) (c .before .before .before .before .before .before .before .before .before .before .before .before .before .before .before .if1 .left) (c .before .before .before .before .before .before .before .before .before .before .before .before .before .before .reply-to-tail .ensures)) (c .before .before .before .before .before .before .before .before .before .before .before .before .before .before .before .before .before .before .before .before .before .before .pre .1 .0) (c .before .before .before .before .before .before .before .before .before .before .before .before .before .before .before .before .before .before .before .before .before .before .pre .1 .1 .0) _ (c .before .before .before .before .before .before .before .before .before .counted .ensures) _ (c .before .before .before .before .before .before .before .answer-lines .ensures .1 .1 .0) _ (c .total .ensures), (c .before .before .before .before .before .before .before .before .before .before .before .before .before .before .before .before .before .before .before .before .before .before .pre .1 .1 .0))
 
 returns-2 : tie.Need-returns-2
 returns-2 c = (
-  fed-is _ _ _ _ _ _ (left-held _ _ _ _ (cut (c .before .before .before .before .before .before .before .before .before .before .before .before .before .before .before .before .before .before .before .before .before .before .before .args .state) _ _ _ (c .before .before .before .before .before .before .before .before .before .before .before .before .before .before .before .before .before .before .line-end .ensures) (c .before .before .before .before .before .before .before .before .before .before .before .before .before .before .before .if1 .left) _ (c .before .before .before .before .before .before .before .before .before .before .before .before .before .before .before .before .extended .ensures) (c .before .before .before .before .before .before .before .before .before .before .before .before .before .before .reply-to-tail .ensures)) _ (c .before .before .before .before .before .before .before .answer-lines .ensures .1 .0 .1) _ _ (c .before .before .before .before .empty .ensures) (c .before .before .extended2 .ensures))
-      (all-lines _ _ _ _ (cut (c .before .before .before .before .before .before .before .before .before .before .before .before .before .before .before .before .before .before .before .before .before .before .before .args .state) _ _ _ (c .before .before .before .before .before .before .before .before .before .before .before .before .before .before .before .before .before .before .line-end .ensures) (c .before .before .before .before .before .before .before .before .before .before .before .before .before .before .before .if1 .left) _ (c .before .before .before .before .before .before .before .before .before .before .before .before .before .before .before .before .extended .ensures) (c .before .before .before .before .before .before .before .before .before .before .before .before .before .before .reply-to-tail .ensures)) (c .before .before .before .before .before .before .before .before .before .before .before .before .before .before .before .before .before .before .before .before .before .before .before .pre .1 .0) (c .before .before .before .before .before .before .before .before .before .before .before .before .before .before .before .before .before .before .before .before .before .before .before .pre .1 .1 .0) _ (c .before .before .before .before .before .before .before .before .before .counted .ensures) _ (c .before .before .before .before .before .before .before .answer-lines .ensures .1 .1 .0) _ (c .total .ensures))
-      (all-counts _ _ _ _ (cut (c .before .before .before .before .before .before .before .before .before .before .before .before .before .before .before .before .before .before .before .before .before .before .before .args .state) _ _ _ (c .before .before .before .before .before .before .before .before .before .before .before .before .before .before .before .before .before .before .line-end .ensures) (c .before .before .before .before .before .before .before .before .before .before .before .before .before .before .before .if1 .left) _ (c .before .before .before .before .before .before .before .before .before .before .before .before .before .before .before .before .extended .ensures) (c .before .before .before .before .before .before .before .before .before .before .before .before .before .before .reply-to-tail .ensures)) (c .before .before .before .before .before .before .before .before .before .before .before .before .before .before .before .before .before .before .before .before .before .before .before .pre .1 .0) (c .before .before .before .before .before .before .before .before .before .before .before .before .before .before .before .before .before .before .before .before .before .before .before .pre .1 .1 .0) _ (c .before .before .before .before .before .before .before .before .before .counted .ensures) _ (c .before .before .before .before .before .before .before .answer-lines .ensures .1 .1 .0))
-      (all-length _ _ _ _ (cut (c .before .before .before .before .before .before .before .before .before .before .before .before .before .before .before .before .before .before .before .before .before .before .before .args .state) _ _ _ (c .before .before .before .before .before .before .before .before .before .before .before .before .before .before .before .before .before .before .line-end .ensures) (c .before .before .before .before .before .before .before .before .before .before .before .before .before .before .before .if1 .left) _ (c .before .before .before .before .before .before .before .before .before .before .before .before .before .before .before .before .extended .ensures) (c .before .before .before .before .before .before .before .before .before .before .before .before .before .before .reply-to-tail .ensures)) _ (c .before .before .before .before .before .before .before .before .before .before .before .before .before .before .before .before .before .before .before .before .before .before .before .pre .1 .1 .1) _ _ (c .before .before .before .before .before .before .before .before .before .before .before .before .write-reply .ensures .1) (c .before .before .before .before .before .before .before .before .before .before .before .before .write-reply .ensures .0) _ (c .before .before .before .before .before .before .before .answer-lines .ensures .0)),
-  all-put _ _ _ _ (cut (c .before .before .before .before .before .before .before .before .before .before .before .before .before .before .before .before .before .before .before .before .before .before .before .args .state) _ _ _ (c .before .before .before .before .before .before .before .before .before .before .before .before .before .before .before .before .before .before .line-end .ensures) (c .before .before .before .before .before .before .before .before .before .before .before .before .before .before .before .if1 .left) _ (c .before .before .before .before .before .before .before .before .before .before .before .before .before .before .before .before .extended .ensures) (c .before .before .before .before .before .before .before .before .before .before .before .before .before .before .reply-to-tail .ensures)) _ (c .before .before .before .before .before .before .before .before .before .before .before .before .before .before .before .before .before .before .before .before .before .before .before .pre .1 .1 .1) _ _ (c .before .before .before .before .before .before .before .before .before .before .before .before .write-reply .ensures .1) (c .before .before .before .before .before .before .before .before .before .before .before .before .write-reply .ensures .0) _ (c .before .before .before .before .before .before .before .answer-lines .ensures .1 .1 .1),
+  fed-is _ _ _ _ _ _ (left-held _ _ _ _ (cut (c .before .before .before .before .before .before .before .before .before .before .before .before .before .before .before .before .before .before .before .before .before .before .args .state) _ _ _ (c .before .before .before .before .before .before .before .before .before .before .before .before .before .before .before .before .before .carry-on .ensures) (c .before .before .before .before .before .before .before .before .before .before .before .before .before .before .before .if1 .left) (c .before .before .before .before .before .before .before .before .before .before .before .before .before .before .reply-to-tail .ensures)) _ (c .before .before .before .before .before .before .before .answer-lines .ensures .1 .0 .1) _ _ (c .before .before .before .before .empty .ensures) (c .before .before .before .carry-on2 .ensures))
+      (all-lines _ _ _ _ (cut (c .before .before .before .before .before .before .before .before .before .before .before .before .before .before .before .before .before .before .before .before .before .before .args .state) _ _ _ (c .before .before .before .before .before .before .before .before .before .before .before .before .before .before .before .before .before .carry-on .ensures) (c .before .before .before .before .before .before .before .before .before .before .before .before .before .before .before .if1 .left) (c .before .before .before .before .before .before .before .before .before .before .before .before .before .before .reply-to-tail .ensures)) (c .before .before .before .before .before .before .before .before .before .before .before .before .before .before .before .before .before .before .before .before .before .before .pre .1 .0) (c .before .before .before .before .before .before .before .before .before .before .before .before .before .before .before .before .before .before .before .before .before .before .pre .1 .1 .0) _ (c .before .before .before .before .before .before .before .before .before .counted .ensures) _ (c .before .before .before .before .before .before .before .answer-lines .ensures .1 .1 .0) _ (c .total .ensures))
+      (all-counts _ _ _ _ (cut (c .before .before .before .before .before .before .before .before .before .before .before .before .before .before .before .before .before .before .before .before .before .before .args .state) _ _ _ (c .before .before .before .before .before .before .before .before .before .before .before .before .before .before .before .before .before .carry-on .ensures) (c .before .before .before .before .before .before .before .before .before .before .before .before .before .before .before .if1 .left) (c .before .before .before .before .before .before .before .before .before .before .before .before .before .before .reply-to-tail .ensures)) (c .before .before .before .before .before .before .before .before .before .before .before .before .before .before .before .before .before .before .before .before .before .before .pre .1 .0) (c .before .before .before .before .before .before .before .before .before .before .before .before .before .before .before .before .before .before .before .before .before .before .pre .1 .1 .0) _ (c .before .before .before .before .before .before .before .before .before .counted .ensures) _ (c .before .before .before .before .before .before .before .answer-lines .ensures .1 .1 .0))
+      (all-length _ _ _ _ (cut (c .before .before .before .before .before .before .before .before .before .before .before .before .before .before .before .before .before .before .before .before .before .before .args .state) _ _ _ (c .before .before .before .before .before .before .before .before .before .before .before .before .before .before .before .before .before .carry-on .ensures) (c .before .before .before .before .before .before .before .before .before .before .before .before .before .before .before .if1 .left) (c .before .before .before .before .before .before .before .before .before .before .before .before .before .before .reply-to-tail .ensures)) _ (c .before .before .before .before .before .before .before .before .before .before .before .before .before .before .before .before .before .before .before .before .before .before .pre .1 .1 .1) _ _ (c .before .before .before .before .before .before .before .before .before .before .before .before .write-reply .ensures .1) (c .before .before .before .before .before .before .before .before .before .before .before .before .write-reply .ensures .0) _ (c .before .before .before .before .before .before .before .answer-lines .ensures .0)),
+  all-put _ _ _ _ (cut (c .before .before .before .before .before .before .before .before .before .before .before .before .before .before .before .before .before .before .before .before .before .before .args .state) _ _ _ (c .before .before .before .before .before .before .before .before .before .before .before .before .before .before .before .before .before .carry-on .ensures) (c .before .before .before .before .before .before .before .before .before .before .before .before .before .before .before .if1 .left) (c .before .before .before .before .before .before .before .before .before .before .before .before .before .before .reply-to-tail .ensures)) _ (c .before .before .before .before .before .before .before .before .before .before .before .before .before .before .before .before .before .before .before .before .before .before .pre .1 .1 .1) _ _ (c .before .before .before .before .before .before .before .before .before .before .before .before .write-reply .ensures .1) (c .before .before .before .before .before .before .before .before .before .before .before .before .write-reply .ensures .0) _ (c .before .before .before .before .before .before .before .answer-lines .ensures .1 .1 .1),
 )
 
 pub take-piece-spec : {M : Type 1} → statement M
 take-piece-spec =
     tie.close
-    (tie.spec (λ c κs. search needs) slice-aggregate-extended (λ c κs. search needs) returns reply-to-tail-requires write-reply-requires add-answer-lines counted-requires
-    answer-lines-requires (λ c κs. search needs) (λ c. search needs) (λ c. search needs) (λ c. search needs) extended-requires-2 (λ c κs. search needs) cast-t30
-    (λ c. search needs) returns-2)
+    (tie.spec carry-on-requires returns reply-to-tail-requires write-reply-requires add-answer-lines counted-requires answer-lines-requires (λ c κs. search needs) carry-on-requires-2
+    (λ c κs. search needs) cast-t26 (λ c. search needs) returns-2)

@@ -8,13 +8,15 @@ use mathlib.Core.Bool.{true, false}
 use mathlib.Core.List.{List, _++_}
 use lib.Dec.{leb}
 use lib.ListN.{length, take, drop}
-use lib.Seq.{length-take-le}
 use Rattle.lines.specs.Reply.{Told, replyTo, written}
 use Rattle.batch.specs.declared.Tail.{Tail}
+use Rattle.batch.specs.declared.carry.Carried.{Carried}
 use Rattle.batch.specs.Complete.{linesFrom, lines, lineEnd}
-use Rattle.batch.specs.Holding.{hold, carried}
+use Rattle.batch.specs.Holding.{carried}
+use Rattle.batch.specs.Carry.{carryOn}
 use Rattle.batch.specs.Feed.{replies, joined, answerLines}
-use Rattle.batch.proofs.Cutting.{front-line, front-none, front-within, front-before}
+use Rattle.batch.proofs.Cutting.{front-line, front-none, front-before}
+use Rattle.batch.proofs.CarriedOn.{first-end, first-held}
 use Rattle.batch.proofs.Holds.{sound-as}
 use Rattle.batch.proofs.Replied.{first-length, fits-after, reply-tail}
 use Rattle.batch.proofs.measure.fits.Statement.{statement}
@@ -40,36 +42,30 @@ module _ (so p : List ℕ) (room end : ℕ) (e : end ≡ 0 + lineEnd p) where
     goes-on h = sym (ap (λ (k : ℕ). leb k room) first ∙ fits-after n (length (answerLines (lines (drop (end + 1) p)))) room h)
 
 -- the length of the answer line of the tail's line, from what the calls say
-replied : (t : Tail) (l : List ℕ) (r : Told) (n : ℕ) → t ≡ hold l → r ≡ replyTo (carried t) → n ≡ length (written r) → n ≡ length (written (replyTo l))
-replied t l r n e f g = g ∙ ap (λ (k : Told). length (written k)) (f ∙ reply-tail t l e)
+replied : (t : Tail) (p : List ℕ) (first : Carried) (r : Told) (n : ℕ) → first ≡ carryOn t p 0 → r ≡ replyTo (carried (first .tail)) → n ≡ length (written r)
+    → n ≡ length (written (replyTo (carried t ++ take (first .end) p)))
+replied t p first r n e f g = g ∙ ap (λ (k : Told). length (written k)) (f ∙ reply-tail (first .tail) (carried t ++ take (first .end) p) (first-held t p first e))
+
+carry-on-requires : tie.Need-carry-on-requires
+carry-on-requires c κs = (omega arith, c .before .pre)
 
 returns : tie.Need-returns
-returns c = none _ _ _ _ (c .before .line-end .ensures) (c .if1 .taken)
-
-slice-aggregate-extended : tie.Need-slice-aggregate-extended
-slice-aggregate-extended c = sym (length-take-le _ _ (front-within _ _ (c .before .before .line-end .ensures)))
+returns c = none _ _ _ _ (first-end _ _ _ (c .before .carry-on .ensures)) (c .if1 .taken)
 
 reply-to-tail-requires : tie.Need-reply-to-tail-requires
-reply-to-tail-requires c κs = sound-as _ _ (c .extended .ensures)
+reply-to-tail-requires c κs = sound-as _ _ (first-held _ _ _ (c .before .before .carry-on .ensures))
 
 returns-2 : tie.Need-returns-2
-returns-2 c =
-    fails _ _ _ _ (c .before .before .before .before .before .before .line-end .ensures) (front-before _ _ (c .before .before .before .before .before .before .line-end .ensures) (c .before .before .before .before .before .if1 .left)) _
-    (replied _ _ _ _ (c .before .before .before .extended .ensures) (c .before .before .reply-to-tail .ensures) (c .before .reply-length .ensures)) (c .if2 .taken)
+returns-2 c = fails _ _ _ _ (first-end _ _ _ (c .before .before .before .before .before .carry-on .ensures)) (front-before _ _ (first-end _ _ _ (c .before .before .before .before .before .carry-on .ensures)) (c .before .before .before .before .if1 .left)) _ (replied _ _ _ _ _ (c .before .before .before .before .before .carry-on .ensures) (c .before .before .reply-to-tail .ensures) (c .before .reply-length .ensures)) (c .if2 .taken)
 
 add-lines-fit : tie.Need-add-lines-fit
-add-lines-fit c = omega (arith, front-before (c .before .before .before .before .before .before .before .before .args .piece .now) (c .before .before .before .before .before .before .line-end .result) (c .before .before .before .before .before .before .line-end .ensures) (c .before .before .before .before .before .if1 .left))
+add-lines-fit c = omega (arith, front-before (c .before .before .before .before .before .before .before .args .piece .now) (c .before .before .before .before .before .carry-on .result .end) (first-end _ _ _ (c .before .before .before .before .before .carry-on .ensures)) (c .before .before .before .before .if1 .left))
 
 lines-fit-requires : tie.Need-lines-fit-requires
-lines-fit-requires c κs = omega (arith, front-before (c .before .before .before .before .before .before .before .before .args .piece .now) (c .before .before .before .before .before .before .line-end .result) (c .before .before .before .before .before .before .line-end .ensures) (c .before .before .before .before .before .if1 .left))
+lines-fit-requires c κs = omega (arith, front-before (c .before .before .before .before .before .before .before .args .piece .now) (c .before .before .before .before .before .carry-on .result .end) (first-end _ _ _ (c .before .before .before .before .before .carry-on .ensures)) (c .before .before .before .before .if1 .left))
 
 returns-3 : tie.Need-returns-3
-returns-3 c =
-    c .lines-fit .ensures
-    ∙ goes-on _ _ _ _ (c .before .before .before .before .before .before .before .line-end .ensures) (front-before _ _ (c .before .before .before .before .before .before .before .line-end .ensures) (c .before .before .before .before .before .before .if1 .left)) _
-    (replied _ _ _ _ (c .before .before .before .before .extended .ensures) (c .before .before .before .reply-to-tail .ensures) (c .before .before .reply-length .ensures)) (c .before .if2 .left)
+returns-3 c = c .lines-fit .ensures ∙ goes-on _ _ _ _ (first-end _ _ _ (c .before .before .before .before .before .before .carry-on .ensures)) (front-before _ _ (first-end _ _ _ (c .before .before .before .before .before .before .carry-on .ensures)) (c .before .before .before .before .before .if1 .left)) _ (replied _ _ _ _ _ (c .before .before .before .before .before .before .carry-on .ensures) (c .before .before .before .reply-to-tail .ensures) (c .before .before .reply-length .ensures)) (c .before .if2 .left)
 
 pub fits-spec : {M : Type 1} → statement M
-fits-spec =
-    tie.close
-    (tie.spec (λ c κs. search needs) returns slice-aggregate-extended (λ c κs. search needs) reply-to-tail-requires (λ c κs. search needs) returns-2 add-lines-fit lines-fit-requires returns-3)
+fits-spec = tie.close (tie.spec carry-on-requires returns reply-to-tail-requires (λ c κs. search needs) returns-2 add-lines-fit lines-fit-requires returns-3)
