@@ -224,8 +224,15 @@ static void refusals(void)
 /* The totals into outputs of every length, with and without an end. */
 static void totals(void)
 {
-    fade_state state = {{{0}, {0}, 0}, 654321, {1, 20, 300, 4000, 50000, 600000}};
     const char *text = "lines=654321 rule=1 whole=20 edge=300 fast=4000 slow=50000 bad=600000\nend=6\n";
+    fade_state state = fade_batch_fresh();
+    state.lines = 654321;
+    state.tallies.rule = 1;
+    state.tallies.whole = 20;
+    state.tallies.edge = 300;
+    state.tallies.fast = 4000;
+    state.tallies.slow = 50000;
+    state.tallies.bad = 600000;
     for (unsigned end = 0; end <= 6; end += 6) {
         size_t length = strlen(text) - (end == 0 ? 6 : 0);
         for (size_t room = 0; room < 140; room++) {

@@ -1,7 +1,7 @@
-// The functions of the static library, and all of this crate's unsafe code. The library is proved:
-// none of these functions asks anything of the values it gets, none keeps a pointer or anything else
-// from one call to the next, and none fails. What is left to see to is that the declarations fit the
-// library, and that the memory that is lent is there.
+// The functions of the static library, and all of this crate's unsafe code. The library is proved: none
+// of these functions asks anything of the values that it gets, and none keeps a pointer after it
+// returns. What is left to see to is that the declarations fit the library, and that the memory that is
+// lent is there.
 
 use crate::{State, Tail, Tallies, TOTALS};
 use std::mem::{align_of, offset_of, size_of};
