@@ -2,9 +2,10 @@
  * Battery fade factors, (1+x)^y in f32, and the reader of batch lines, for C99 and C++11.
  *
  * A thin layer over a static library whose functions are proved. `rt staticlib exports` writes it to
- * target/staticlib/libexports.a; a program that includes this header is linked with it. The library
- * holds code translated from the Rust crate pxfm 0.1.30 (BSD-3-Clause OR Apache-2.0; NOTICE has both
- * licences). Names that begin with fade_internal_ are not for callers.
+ * target/staticlib/libexports.a; a program that includes this header is linked with it. Before a pack is
+ * sized on an answer, read docs/ERROR-BUDGET.md. The library holds code translated from the Rust crate
+ * pxfm 0.1.30 (BSD-3-Clause OR Apache-2.0; NOTICE has both licences). Names that begin with
+ * fade_internal_ are not for callers.
  */
 #ifndef FADE_H
 #define FADE_H
@@ -103,8 +104,8 @@ static inline fade_answer fade_compound(float x, float y)
     return answer;
 }
 
-/* (1+x)^y: for every pair the same bits as f_compoundf of pxfm 0.1.30 built for x86_64 without fma and
- * sse4.1, any two NaNs taken as alike. A NaN from here is always 7fc00000. */
+/* (1+x)^y. Every pair is accepted, and the bits are those of f_compoundf of pxfm 0.1.30 built for x86_64
+ * without fma and sse4.1, any two NaNs taken as alike. docs/DIFFERENCES.md says what was compared. */
 static inline float fade_f_compoundf(float x, float y)
 {
     return fade_compound(x, y).value;

@@ -32,7 +32,7 @@ fn link() -> Result<(), String> {
     let name = path.display();
     println!("cargo::rerun-if-changed={name}");
     if !path.is_file() {
-        return Err(format!("there is no file {name}: run `rt staticlib exports`, or set FADE_LIB"));
+        return Err(format!("there is no {name}: run `rt staticlib exports`, or set FADE_LIB"));
     }
     let whole = path.canonicalize().map_err(|error| format!("{name}: {error}"))?;
     let (Some(folder), Some(file)) = (whole.parent(), whole.file_name()) else {

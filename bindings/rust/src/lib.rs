@@ -1,8 +1,9 @@
 //! Battery fade factors, (1+x)^y in f32, and the reader of batch lines.
 //!
 //! A thin layer over a static library whose functions are proved; `rt staticlib exports` builds it.
-//! Every function here takes every value of its types. The library holds code translated from the
-//! crate pxfm 0.1.30 (BSD-3-Clause OR Apache-2.0; NOTICE has both licences).
+//! Every function here takes every value of its types. Before a pack is sized on an answer, read
+//! docs/ERROR-BUDGET.md. The library holds code translated from the crate pxfm 0.1.30
+//! (BSD-3-Clause OR Apache-2.0; NOTICE has both licences).
 //!
 //! ```
 //! // A cell that loses 0.02 % a cycle, after 500 cycles.
@@ -36,9 +37,9 @@ pub const OVER_LONG: u32 = LONGEST as u32 + 1;
 // Room for the line of totals and the end's line, whatever their numbers.
 const TOTALS: usize = 128;
 
-/// (1+x)^y, in the place of the crate's function of this name: for every pair the same bits as pxfm
-/// 0.1.30 built for x86_64 without fma and sse4.1, any two NaNs taken as alike. A NaN from here is
-/// always 7fc00000.
+/// (1+x)^y, in the place of the crate's function of this name. Every pair is accepted, and the bits are
+/// those of pxfm 0.1.30 built for x86_64 without fma and sse4.1, any two NaNs taken as alike; a NaN
+/// from here is always 7fc00000. docs/DIFFERENCES.md says what was compared.
 #[inline]
 pub fn f_compoundf(x: f32, y: f32) -> f32 {
     compound(x, y).value
