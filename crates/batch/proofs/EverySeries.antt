@@ -7,7 +7,7 @@ use mathlib.Core.List.{List, [], _∷_, _++_, map, append-nil, append-assoc}
 use lib.Dec.{eqb, ltb}
 use lib.ListN.{length, take, drop}
 use lib.Seq.{take-at}
-use borrow.Author.Tests.{ltb-false}
+use borrow.Author.Tests.{ltb-false, le-ltb}
 use Rattle.answers.proofs.EveryAnswer.{claims}
 use Rattle.lines.specs.Format.{readLine}
 use Rattle.lines.specs.Reply.{answerTo, replyTo}
@@ -20,7 +20,7 @@ use Rattle.batch.specs.declared.Verdict.the-variants.{Accepted, Broken, 
 use Rattle.batch.specs.Complete.{linesFrom, lines, feeds}
 use Rattle.batch.specs.Holding.{fresh}
 use Rattle.batch.specs.Feed.{mostLines, replies, joined, answerLines, added, number, stateAfter, outAfter, fed, Did}
-use Rattle.batch.specs.Series.{Call, Calls, stateOf, isAccepted, accepted, said, wrote, wroteAll, adds, due, takes, dueAll, asked, verdicts, Answered, Obeyed, Served, Always, Possible}
+use Rattle.batch.specs.Series.{Call, Calls, stateOf, isAccepted, isRefused, accepted, said, wrote, wroteAll, adds, due, takes, dueAll, asked, verdicts, Answered, Obeyed, Served, Always, Possible}
 use Rattle.batch.proofs.Replied.{answer-append}
 use Rattle.batch.proofs.Carrying.{after-all, after-none, verdict-due, after-more, answers-added, lines-more}
 
@@ -73,6 +73,12 @@ module _ (m : ℕ) where
   its-number false true = refl
   its-number false false = refl
 
+  not-refused : (many short : Bool) → isRefused (chosen many short) ≡ false → (many ≡ false) × (short ≡ false)
+  unfolding chosen isRefused number
+  not-refused true short e = let z : _≡_ {A = ℕ} 0 1 = cc in absurd (omega arith)
+  not-refused false true e = let z : _≡_ {A = ℕ} 0 1 = cc in absurd (omega arith)
+  not-refused false false e = (refl, refl)
+
   not-five : (many short : Bool) → chosen many short ≡ Broken → ⊥
   unfolding chosen
   not-five true short e = let z : _≡_ {A = ℕ} 0 1 = cc in omega arith
@@ -101,6 +107,18 @@ module _ (t p : List ℕ) (room : ℕ) where
   due-number : number (due t p room) ≡ cond (ltb mostLines (feeds t + feeds p)) 6 (cond (ltb room (length (answerLines (adds t p)))) 7 0)
   unfolding due chosen
   due-number = its-number (length (answerLines (adds t p))) (ltb mostLines (feeds t + feeds p)) (ltb room (length (answerLines (adds t p))))
+
+  -- it is none of 5 to 7 exactly where neither test fails
+  pub due-few-fits : isRefused (due t p room) ≡ false → (feeds t + feeds p ≤ mostLines) × (length (answerLines (adds t p)) ≤ room)
+  unfolding due chosen
+  due-few-fits e = (ltb-false mostLines (feeds t + feeds p) (both .0), ltb-false room (length (answerLines (adds t p))) (both .1))
+    where
+      both : (ltb mostLines (feeds t + feeds p) ≡ false) × (ltb room (length (answerLines (adds t p))) ≡ false)
+      both = not-refused (length (answerLines (adds t p))) (ltb mostLines (feeds t + feeds p)) (ltb room (length (answerLines (adds t p)))) e
+
+  pub few-fits-due : feeds t + feeds p ≤ mostLines → length (answerLines (adds t p)) ≤ room → isRefused (due t p room) ≡ false
+  unfolding isRefused due number
+  few-fits-due a b = rw (le-ltb mostLines (feeds t + feeds p) a, le-ltb room (length (answerLines (adds t p))) b)
 
   due-not-five : due t p room ≡ Broken → ⊥
   unfolding due chosen

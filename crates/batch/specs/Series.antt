@@ -1,7 +1,7 @@
 -- The mission's demand 3, and document 01's paragraphs on it: what every list of feed calls comes to. The sentences stand above what says them.
 use Prim.Native.Nat.{ℕ, _+_}
 use mathlib.Core.Path.{_≡_}
-use mathlib.Core.Bool.{Bool, false, cond}
+use mathlib.Core.Bool.{Bool, true, false, not, cond}
 use mathlib.Core.List.{List, [], _∷_, _++_, map}
 use lib.Dec.{eqb, ltb}
 use lib.ListN.{length, take, drop}
@@ -42,6 +42,10 @@ stateOf s (c ∷ cs) = stateOf (c .returned .state) cs
 -- "A piece is accepted when its call returns none of 5 to 7."
 unfoldable pub isAccepted : Call → Bool
 isAccepted c = eqb (Feed.number (c .returned .verdict)) 0
+
+-- an answer with one of 5 to 7
+unfoldable pub isRefused : Verdict → Bool
+isRefused v = not (eqb (Feed.number v) 0)
 
 -- "the joined accepted pieces"
 unfoldable pub accepted : List Call → List ℕ
@@ -145,8 +149,15 @@ Always R = (cs : List Call) → Calls R fresh cs → Served cs
 unfoldable pub Possible : (State → List ℕ → List ℕ → Fed → List ℕ → Type 0) → Type 0
 Possible R = (given : List (List ℕ × List ℕ)) → (cs : List Call) × ((map (λ (c : Call). (c .piece, c .out)) cs ≡ given) × Calls R fresh cs)
 
--- An input fed in pieces from a fresh state, one after another, until one is refused: where none is, the state, the number of bytes written and the output are those of
--- feeding it whole, wherever it was cut.
+-- An input fed in pieces from a fresh state, one after another, until one is refused
 pub record InPieces (input out : List ℕ) (r : Fed) (out′ : List ℕ) : Type 0 where
-  pub as-whole : (n : ℕ) → r .verdict ≡ Accepted n → Feed.Did fresh input out r out′
+  -- so many bytes of it were taken, and so many written
+  pub taken : ℕ
+  pub written : ℕ
+  -- for what was taken, the state and the output are those of feeding it whole, wherever it was cut
+  pub as-whole : Feed.Did fresh (take taken input) out (record { state = r .state; verdict = Accepted written }) out′
+  -- where no piece was refused, all was taken
+  pub if-accepted : (n : ℕ) → r .verdict ≡ Accepted n → (take taken input ≡ input) × (written ≡ n)
+  -- where one was, the input fed whole would be refused too
+  pub if-refused : isRefused (r .verdict) ≡ true → isRefused (Feed.verdict fresh input (length out)) ≡ true
   pub never-broken : r .verdict ≡ Broken → ⊥

@@ -8,8 +8,8 @@ ghost use Prim.Native.Nat.{_≤_, _<_};
 ghost use Rattle.batch.specs.Series.{InPieces};
 
 // Feeds an input from a fresh state, in pieces of at most `size` bytes (0 counts as 1), and writes the
-// answer lines one after another to the front of `out`. It ends with the first piece that is refused;
-// if none is, all is as if the input had been fed whole, wherever it was cut.
+// answer lines one after another to the front of `out`. It ends with the first piece that is refused.
+// What was taken is as if it had been fed whole, wherever it was cut.
 pub(crate) fn feed_in_pieces(input: &[u8], size: usize, out: &mut [u8]) -> Fed
     ensures { λ r. ⌜ InPieces (now (input .entry)) (now (out .entry)) r (now (out .exit)) ⌝ }
 {

@@ -5,11 +5,9 @@ use native.Mathlib.Omega.{arith}
 use mathlib.Core.Path.{_≡_, ap}
 use mathlib.Core.List.{List, []}
 use lib.ListN.{length}
-use lib.Dec.{eqb}
-use Rattle.batch.specs.declared.Verdict.{Verdict}
 use Rattle.batch.specs.Feed.{number}
-use Rattle.batch.specs.Series.{Call}
-use Rattle.batch.proofs.InPieces.{Come, begun, come-length, come-within, refused-length, refused-pieces, come-on, as-whole}
+use Rattle.batch.specs.Series.{Call, isRefused}
+use Rattle.batch.proofs.InPieces.{Come, begun, come-length, come-within, refused-length, refused-pieces, come-on, all-pieces}
 use Rattle.batch.proofs.Cutting.{to-end}
 use Rattle.batch.proofs.pieces.feed_in_pieces.Statement.{statement}
 use Rattle.batch.proofs.pieces.feed_in_pieces.Tie as tie
@@ -59,38 +57,34 @@ loop-again : tie.Need-loop-again Inv-loop μ-loop
 loop-again c = (_, come-on _ _ _ _ _ _ _ (c .before .before .before .before .before .before .before .before .before .before .before .loop .inv .1) _ (c .before .before .before .before .before .before .before .before .before .piece-end .ensures .0) (c .before .before .before .before .before .before .before .before .before .piece-end .ensures .1) _ _ _ (to-end (c .before .before .before .before .before .before .before .before .before .before .before .loop .out) (c .before .before .before .before .before .before .before .before .before .before .before .loop .at)) (c .before .before .before .before .before .before .feed .ensures) _ (c .before .before .verdict .given .1))
 
 same-length : tie.Need-same-length Inv-loop μ-loop
-unfolding number
-same-length c = refused-length _ _ _ _ _ _ _ (c .before .before .before .before .before .before .before .before .before .loop .inv .1) _ (c .before .before .before .before .before .before .before .piece-end .ensures .0) (c .before .before .before .before .before .before .before .piece-end .ensures .1) _ _ _ (to-end (c .before .before .before .before .before .before .before .before .before .loop .out) (c .before .before .before .before .before .before .before .before .before .loop .at)) (c .before .before .before .before .feed .ensures) (ap (λ (v : Verdict). eqb (number v) 0) (c .enum-told .given .1))
+unfolding isRefused number
+same-length c = refused-length _ _ _ _ _ _ _ (c .before .before .before .before .before .before .before .before .before .loop .inv .1) _ (c .before .before .before .before .before .before .before .piece-end .ensures .0) (c .before .before .before .before .before .before .before .piece-end .ensures .1) _ _ _ (to-end (c .before .before .before .before .before .before .before .before .before .loop .out) (c .before .before .before .before .before .before .before .before .before .loop .at)) (c .before .before .before .before .feed .ensures) (ap isRefused (c .enum-told .given .1))
 
 returns : tie.Need-returns Inv-loop μ-loop
-unfolding number
-returns c = refused-pieces _ _ _ _ _ _ _ (c .before .before .before .before .before .before .before .before .before .loop .inv .1) _ (c .before .before .before .before .before .before .before .piece-end .ensures .0) (c .before .before .before .before .before .before .before .piece-end .ensures .1) _ _ _ (to-end (c .before .before .before .before .before .before .before .before .before .loop .out) (c .before .before .before .before .before .before .before .before .before .loop .at)) (c .before .before .before .before .feed .ensures) (ap (λ (v : Verdict). eqb (number v) 0) (c .enum-told .given .1)) _
+unfolding isRefused number
+returns c = refused-pieces _ _ _ _ _ _ _ (c .before .before .before .before .before .before .before .before .before .loop .inv .1) _ (c .before .before .before .before .before .before .before .piece-end .ensures .0) (c .before .before .before .before .before .before .before .piece-end .ensures .1) _ _ _ (to-end (c .before .before .before .before .before .before .before .before .before .loop .out) (c .before .before .before .before .before .before .before .before .before .loop .at)) (c .before .before .before .before .feed .ensures) (ap isRefused (c .enum-told .given .1))
 
 same-length-2 : tie.Need-same-length-2 Inv-loop μ-loop
-unfolding number
-same-length-2 c = refused-length _ _ _ _ _ _ _ (c .before .before .before .before .before .before .before .before .before .loop .inv .1) _ (c .before .before .before .before .before .before .before .piece-end .ensures .0) (c .before .before .before .before .before .before .before .piece-end .ensures .1) _ _ _ (to-end (c .before .before .before .before .before .before .before .before .before .loop .out) (c .before .before .before .before .before .before .before .before .before .loop .at)) (c .before .before .before .before .feed .ensures) (ap (λ (v : Verdict). eqb (number v) 0) (c .enum-told2 .given .1))
+unfolding isRefused number
+same-length-2 c = refused-length _ _ _ _ _ _ _ (c .before .before .before .before .before .before .before .before .before .loop .inv .1) _ (c .before .before .before .before .before .before .before .piece-end .ensures .0) (c .before .before .before .before .before .before .before .piece-end .ensures .1) _ _ _ (to-end (c .before .before .before .before .before .before .before .before .before .loop .out) (c .before .before .before .before .before .before .before .before .before .loop .at)) (c .before .before .before .before .feed .ensures) (ap isRefused (c .enum-told2 .given .1))
 
 returns-2 : tie.Need-returns-2 Inv-loop μ-loop
-unfolding number
-returns-2 c = refused-pieces _ _ _ _ _ _ _ (c .before .before .before .before .before .before .before .before .before .loop .inv .1) _ (c .before .before .before .before .before .before .before .piece-end .ensures .0) (c .before .before .before .before .before .before .before .piece-end .ensures .1) _ _ _ (to-end (c .before .before .before .before .before .before .before .before .before .loop .out) (c .before .before .before .before .before .before .before .before .before .loop .at)) (c .before .before .before .before .feed .ensures) (ap (λ (v : Verdict). eqb (number v) 0) (c .enum-told2 .given .1)) _
+unfolding isRefused number
+returns-2 c = refused-pieces _ _ _ _ _ _ _ (c .before .before .before .before .before .before .before .before .before .loop .inv .1) _ (c .before .before .before .before .before .before .before .piece-end .ensures .0) (c .before .before .before .before .before .before .before .piece-end .ensures .1) _ _ _ (to-end (c .before .before .before .before .before .before .before .before .before .loop .out) (c .before .before .before .before .before .before .before .before .before .loop .at)) (c .before .before .before .before .feed .ensures) (ap isRefused (c .enum-told2 .given .1))
 
 same-length-3 : tie.Need-same-length-3 Inv-loop μ-loop
-unfolding number
-same-length-3 c = refused-length _ _ _ _ _ _ _ (c .before .before .before .before .before .before .before .before .before .loop .inv .1) _ (c .before .before .before .before .before .before .before .piece-end .ensures .0) (c .before .before .before .before .before .before .before .piece-end .ensures .1) _ _ _ (to-end (c .before .before .before .before .before .before .before .before .before .loop .out) (c .before .before .before .before .before .before .before .before .before .loop .at)) (c .before .before .before .before .feed .ensures) (ap (λ (v : Verdict). eqb (number v) 0) (c .enum-told3 .given .1))
+unfolding isRefused number
+same-length-3 c = refused-length _ _ _ _ _ _ _ (c .before .before .before .before .before .before .before .before .before .loop .inv .1) _ (c .before .before .before .before .before .before .before .piece-end .ensures .0) (c .before .before .before .before .before .before .before .piece-end .ensures .1) _ _ _ (to-end (c .before .before .before .before .before .before .before .before .before .loop .out) (c .before .before .before .before .before .before .before .before .before .loop .at)) (c .before .before .before .before .feed .ensures) (ap isRefused (c .enum-told3 .given .1))
 
 returns-3 : tie.Need-returns-3 Inv-loop μ-loop
-unfolding number
-returns-3 c = refused-pieces _ _ _ _ _ _ _ (c .before .before .before .before .before .before .before .before .before .loop .inv .1) _ (c .before .before .before .before .before .before .before .piece-end .ensures .0) (c .before .before .before .before .before .before .before .piece-end .ensures .1) _ _ _ (to-end (c .before .before .before .before .before .before .before .before .before .loop .out) (c .before .before .before .before .before .before .before .before .before .loop .at)) (c .before .before .before .before .feed .ensures) (ap (λ (v : Verdict). eqb (number v) 0) (c .enum-told3 .given .1)) _
+unfolding isRefused number
+returns-3 c = refused-pieces _ _ _ _ _ _ _ (c .before .before .before .before .before .before .before .before .before .loop .inv .1) _ (c .before .before .before .before .before .before .before .piece-end .ensures .0) (c .before .before .before .before .before .before .before .piece-end .ensures .1) _ _ _ (to-end (c .before .before .before .before .before .before .before .before .before .loop .out) (c .before .before .before .before .before .before .before .before .before .loop .at)) (c .before .before .before .before .feed .ensures) (ap isRefused (c .enum-told3 .given .1))
 
 same-length-4 : tie.Need-same-length-4 Inv-loop μ-loop
 same-length-4 c = come-length _ _ _ _ _ _ _ (c .before .loop .inv .1)
 
 returns-4 : tie.Need-returns-4 Inv-loop μ-loop
-returns-4 c =
-    record {
-      as-whole = λ n e. as-whole _ _ _ _ _ _ _ (c .before .loop .inv .1) (c .loop-test .left);
-      never-broken = λ e. (let z : _≡_ {A = ℕ} 0 1 = cc in omega arith);
-    }
+returns-4 c = all-pieces _ _ _ _ _ _ _ (c .before .loop .inv .1) (c .loop-test .left)
 
 pub feed-in-pieces-spec : {M : Type 1} → statement M
 feed-in-pieces-spec =
