@@ -117,7 +117,7 @@ compoundfExp2Poly2 z =
     record { lo = q .lo ⊕ t .lo; hi = t .hi }
 
 -- "an index below 0 reads entry 0 and one above 32 reads entry 32". The subtraction in `powerIndex` stops at 0. A sum below 0 has a larger pattern
--- than any above, and so it reads entry 32, as does a NaN. No pair comes to either end, nor to those of k below (`indexInside` and `kInside` in
+-- than any above, and so it reads entry 32, as does a NaN. For no pair is the index cut, nor k below (`indexInside` and `kInside` in
 -- answers/specs/Reached.antt).
 unfoldable pub clampedIndex : Float → ℕ
 clampedIndex r = min (powerIndex r) 32
