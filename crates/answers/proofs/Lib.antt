@@ -6,3 +6,4 @@ pub mod Whole
 pub mod Reached
 pub mod EveryAnswer
 pub mod Examples
+pub mod SlowExamples
