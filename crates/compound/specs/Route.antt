@@ -29,8 +29,8 @@ decided x y (Rounded v) = record { via = fast; value = narrowed v }
 decided x y Failed = record { via = slow; value = compoundfAccurate x y }
 
 -- "t <= -150 gives +0 and t >= 128 gives +infinity; a pattern of t, shifted left once, of at most 3e6715476ba97f14 gives 1. These are route
--- `edge`." Here t >= 128 is `not (t < 128)`. The two differ for a NaN alone, and no pair has one (`exponent-number` in
--- answers/proofs/Slow/SlowSign.antt).
+-- `edge`." Here t >= 128 is `not (t < 128)`. The two differ for a NaN alone, and no pair has one: that is a part of the contract of `every_answer` in
+-- the crate `answers` (`tNumber` in its specs/Reached.antt).
 unfoldable pub fromLogarithm : Float → Float → Float → Outcome
 fromLogarithm x y t =
     cond (le t (fin true 75 (pos 1))) (record { via = edge; value = Special.zero })

@@ -1,5 +1,6 @@
 -- Document 01, "Table path" and "Traps for the translator": `compoundf_log2p1_accurate` and `compoundf_exp2_accurate`, line by line with the
--- source, at every double-double. A sum of two numbers may stand the other way round, as `2.0 + v_dd.hi` does.
+-- source, at every double-double. One sum stands the other way round, which changes nothing: the source's `2.0 + v_dd.hi` is `inverseIndex`'s t + 2,
+-- as the fast path has it.
 use Prim.Native.Nat.{ℕ, _+_, _-_, _%_, _^_, min}
 use mathlib.Core.Bool.{Bool, true, false, cond, _&&_}
 use mathlib.Core.List.{List, [], _∷_}
@@ -116,7 +117,8 @@ compoundfExp2Poly2 z =
     record { lo = q .lo ⊕ t .lo; hi = t .hi }
 
 -- "an index below 0 reads entry 0 and one above 32 reads entry 32". The subtraction in `powerIndex` stops at 0. A sum below 0 has a larger pattern
--- than any above, and so it reads entry 32, as does a NaN.
+-- than any above, and so it reads entry 32, as does a NaN. For no pair is the index cut, nor k below (`indexInside` and `kInside` in
+-- answers/specs/Reached.antt).
 unfoldable pub clampedIndex : Float → ℕ
 clampedIndex r = min (powerIndex r) 32
 

@@ -10,7 +10,8 @@ use Rattle.floats.specs.OnBits.{absolute, isInteger}
 use Rattle.compound.specs.Special as Special
 
 -- "y whole with |y| <= 16 (pattern shifted left once at most 83000000), |x| below 2^64". The words in brackets are a test of the same on the pattern
--- (`whole-of-patterns` in proofs/Exponent.antt).
+-- (`whole-of-patterns` in proofs/Exponent.antt). `isInteger` is false at 0 and true at the infinities and a NaN; a y that is one of these has taken the
+-- route `rule` before.
 unfoldable pub isWhole : Float → Float → Bool
 isWhole x y = isInteger y && le (absolute y) (fin false 1 (pos 4)) && lt (absolute x) (fin false 1 (pos 64))
 

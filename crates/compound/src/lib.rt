@@ -10,6 +10,7 @@ ghost use mathlib.Core.Path.{_≡_};
 ghost use lib.Ieee.{binary32, ofBits};
 ghost use Rattle.compound.specs.Answer.{outcome};
 ghost use Rattle.compound.specs.Route as spec;
+ghost use Rattle.compound.specs.Starred.{StarredPairs};
 
 mod fast;
 mod route;
@@ -47,3 +48,9 @@ pub fn f_compoundf(nx: u32, ny: u32) -> Answer
     }
     table_path(x, y)
 }
+
+// The table of pairs at the edges: route and value at each starred one. There is nothing to run: the
+// contract is the theorem.
+pub fn starred_pairs()
+    ensures { λ r. ⌜ StarredPairs ⌝ }
+{}

@@ -16,7 +16,7 @@ use Rattle.double_double.specs.declared.DoubleDouble.{DoubleDouble}
 use Rattle.double_double.specs.DoubleDouble.{fromExactAdd}
 use Rattle.compound.specs.Special.{zero}
 use Rattle.compound.specs.Scaling.{scaled, Within}
-use Rattle.compound.specs.Fast.{powerIndex}
+use Rattle.compound.specs.Fast.{powerIndex, HasPower}
 use Rattle.compound.specs.Slow.{clampedIndex, clampedK, testPattern, isLost, oneTowards, roundedToOdd, scaledToF32, exp2Product, isSmall, exp2Away}
 use Rattle.compound.proofs.Index.{clamped-k-within}
 use Rattle.bounds.proofs.Scales.{S, Bound, at, fast-bounds}
@@ -93,8 +93,8 @@ module _ (t : DoubleDouble) (k : Float) (b : Bound S (2 ^ 52) (t .hi ⊖ k)) (c 
   slot = power-slot (shifted t k .hi) (at (65 * 2 ^ 46) (fast-bounds b c tt .hi) tt)
 
   -- so the index is inside the table without being cut
-  pub index-inside : powerIndex (fromExactAdd (t .hi ⊖ k) (t .lo) .hi) < 33
-  index-inside = slot .inside
+  pub index-inside : HasPower (fromExactAdd (t .hi ⊖ k) (t .lo) .hi)
+  index-inside = (slot .from-0, slot .inside)
 
   pub away-clear : T (clear (exp2Away t k))
   unfolding exp2Away

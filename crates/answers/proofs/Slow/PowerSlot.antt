@@ -1,4 +1,4 @@
--- The index of the power: for |r| up to 65/128 it is inside the table, and the power's exponent (i - 16)/32 is within 1/32 of r, and a little more
+-- The index of the power: for |r| up to 65/128 it is inside the table without being cut, and the power's exponent (i - 16)/32 is within 1/32 of r, and a little more
 -- (`power-slot`). Assumes nothing.
 use mathlib.Core.Path.{_≡_, sym, ap, _∙_, subst}
 use mathlib.Core.Bool.{Bool, true, false, not}
@@ -13,7 +13,7 @@ use Rattle.floats.specs.Operations.{_⊕_, _⊖_, f64}
 use Rattle.floats.proofs.Laws.Sums.{under}
 use Rattle.tables.specs.Tables.{entry, compoundfExp2T}
 use Rattle.tables.proofs.Entries.{exp2t-rule}
-use Rattle.compound.specs.Fast.{powerIndex}
+use Rattle.compound.specs.Fast.{powerPlace, powerIndex}
 use Rattle.bounds.proofs.Values.{perOne, plus, less, Number, Units, by-value}
 use Rattle.bounds.proofs.Operation.{Small}
 use Rattle.bounds.proofs.Scales.{S, S-pos, one-is, unit, Bound, at, sub-small-bound}
@@ -68,6 +68,7 @@ unfolding ofBits fits
 three-is = tested-positive (193 * 2 ^ 47) (193 * 2 ^ 47) three tt
 
 pub record Slot (r : Float) : Type 0 where
+  pub from-0 : 0x10010 ≤ powerPlace r
   pub inside : powerIndex r < 33
   pub rest : Bound S (2 ^ 48 + 2 ^ 40) (r ⊖ entry compoundfExp2T (powerIndex r))
 
@@ -90,9 +91,13 @@ module _ (r : Float) (b : Bound S (65 * 2 ^ 46) r) where
   parts-pos : 0 < 2 ^ 48 * S
   parts-pos = mul-pos (lit< tt) S-pos
 
+  place-is : powerPlace r ≡ 1023 * 2 ^ 6 + j
+  unfolding w j
+  place-is = place-in-32nds (positive-at (2 ^ 54) (2 ^ 55 - 1) sum-is tt tt)
+
   index-is : powerIndex r ≡ j - 80
-  unfolding powerIndex w j
-  index-is = ap (λ (n : ℕ). n - 0x10010) (place-in-32nds (positive-at (2 ^ 54) (2 ^ 55 - 1) sum-is tt tt)) ∙ less-by (plus w / (2 ^ 48 * S))
+  unfolding powerIndex
+  index-is = ap (λ (n : ℕ). n - 0x10010) place-is ∙ less-by j
     where
       less-by : (n : ℕ) → 1023 * 2 ^ 6 + n - 0x10010 ≡ n - 80
       less-by n = omega arith
@@ -107,6 +112,12 @@ module _ (r : Float) (b : Bound S (65 * 2 ^ 46) r) where
     where
       one-less : (s : ℕ) → 0 < s → (113 * 2 ^ 48 - 1) * s < 113 * 2 ^ 48 * s
       one-less s h = omega arith
+
+  from-0 : 0x10010 ≤ powerPlace r
+  from-0 = subst (λ (n : ℕ). 0x10010 ≤ n) (sym place-is) (go j j-least)
+    where
+      go : (n : ℕ) → 80 ≤ n → 0x10010 ≤ 1023 * 2 ^ 6 + n
+      go n h = omega arith
 
   inside : powerIndex r < 33
   inside = subst (λ (n : ℕ). n < 33) (sym index-is) (go j j-least j-most)
@@ -132,7 +143,7 @@ module _ (r : Float) (b : Bound S (65 * 2 ^ 46) r) where
       (le-trans (le-of-lt (subst (λ (n : ℕ). plus w < (n + 1) * (2 ^ 48 * S)) (sym i80) (q .1))) (le-of-eq (sym (high-end i S))))
       (over (plus w) (less w) (plus three) (less three) (plus r) (less r) S (three-is .clear) (sum-is .clear) (off .upper))
       (under (plus w) (less w) (plus three) (less three) (plus r) (less r) S (three-is .clear) (sum-is .clear) (off .lower)) in
-      record { inside = inside; rest = at (2 ^ 48 + 2 ^ 40) (sub-small-bound (2 ^ 47 + 4) unit (b .number) (T .number) small tt) tt }
+      record { from-0 = from-0; inside = inside; rest = at (2 ^ 48 + 2 ^ 40) (sub-small-bound (2 ^ 47 + 4) unit (b .number) (T .number) small tt) tt }
     where
       back : (n : ℕ) → 80 ≤ n → n - 80 + 80 ≡ n
       back n h = omega arith

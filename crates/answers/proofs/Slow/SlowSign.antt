@@ -25,7 +25,7 @@ use Rattle.double_double.specs.declared.DoubleDouble.{DoubleDouble}
 use Rattle.double_double.specs.DoubleDouble.{fromExactAdd, quickMultF64}
 use Rattle.compound.specs.Special as Special
 use Rattle.compound.specs.Special.{one, minusOne}
-use Rattle.compound.specs.Fast.{compoundfLog2p1Fast, powerIndex}
+use Rattle.compound.specs.Fast.{compoundfLog2p1Fast, HasPower}
 use Rattle.compound.specs.Slow.{clampedK, onePlus, compoundfLog2p1Accurate, isNearOne, exp2Away, exp2Accurate, compoundfAccurate}
 use Rattle.compound.specs.Route.{Tabled}
 use Rattle.compound.proofs.Index.{between-finite}
@@ -362,17 +362,18 @@ module _ (x y : Float) (tabled : Tabled x y) (low : le (compoundfLog2p1Fast x �
           }
       go (inr nil) = absurd (true≢false (sym (ap (λ (n : ℕ). leb n 0x3e6715476ba97f14) (nil-bits (compoundfLog2p1Fast x) y nil (Y .0))) ∙ apart))
 
-  -- its index is inside the table of powers: no index is cut
-  pub slow-index : let t = quickMultF64 (compoundfLog2p1Accurate x) y in powerIndex (fromExactAdd (t .hi ⊖ nearestWhole (t .hi)) (t .lo) .hi) < 33
+  -- its index is inside the table of powers: none is cut, neither below 0 nor above 32
+  pub slow-index : let t = quickMultF64 (compoundfLog2p1Accurate x) y in HasPower (fromExactAdd (t .hi ⊖ nearestWhole (t .hi)) (t .lo) .hi)
   slow-index =
       let t = quickMultF64 (compoundfLog2p1Accurate x) y in
       index-inside t (nearestWhole (t .hi)) (distance (t .hi) (slow-exponent .number)) (slow-exponent .second)
 
-  -- and k is from -1000 to 1000: none is cut
-  pub slow-k : let k = nearestWhole (quickMultF64 (compoundfLog2p1Accurate x) y .hi) in toSigned 63 k ≡ clampedK k
+  -- and k is finite and from -1000 to 1000: none is cut
+  pub slow-k : let k = nearestWhole (quickMultF64 (compoundfLog2p1Accurate x) y .hi) in SizeAtMost 1000 k × (toSigned 63 k ≡ clampedK k)
   slow-k =
       let h = quickMultF64 (compoundfLog2p1Accurate x) y .hi in
-      unclamped (nearestWhole h) (whole-at-most h (slow-exponent .number .held) 1000 (units-in-size 1000 h (slow-exponent .number) (slow-exponent .first)))
+      let s = whole-at-most h (slow-exponent .number .held) 1000 (units-in-size 1000 h (slow-exponent .number) (slow-exponent .first)) in
+      (s, unclamped (nearestWhole h) s)
 
   power-clear : T (clear (exp2Accurate (quickMultF64 (compoundfLog2p1Accurate x) y)))
   power-clear = exp2-clear (quickMultF64 (compoundfLog2p1Accurate x) y) (slow-exponent .number) (slow-exponent .second)
