@@ -64,16 +64,19 @@ module _ (x : Next) where
   not-nothing : (n : ℕ) → x ≡ Nothing → x ≡ Totals n → ⊥
   not-nothing n e f = let z : _≡_ {A = ℕ} 0 1 = cc in omega arith
 
+  not-read : x ≡ Nothing → x ≡ Read → ⊥
+  not-read e f = let z : _≡_ {A = ℕ} 0 1 = cc in omega arith
+
   same-number : (m n : ℕ) → x ≡ Totals m → x ≡ Totals n → n ≡ m
   same-number m n e f = cc
 
 -- a run without totals
-pub no-totals : (s : State) (t : Turn) → Come s → t .state ≡ s → ((n : ℕ) → t .next ≡ Totals n → ⊥) → Run t
-no-totals s t m e never = record { calls = m .calls; made = m .made; state-is = e ∙ sym (m .state-is); ended = λ n f. absurd (never n f) }
+no-totals : (s : State) (t : Turn) → Come s → t .state ≡ s → (t .next ≡ Read → ⊥) → ((n : ℕ) → t .next ≡ Totals n → ⊥) → Run t
+no-totals s t m e o never = record { calls = m .calls; made = m .made; state-is = e ∙ sym (m .state-is); over = o; ended = λ n f. absurd (never n f) }
 
 -- the reads have run out
 pub run-out : (s : State) (x : Next) → Come s → x ≡ Nothing → Run (record { state = s; next = x })
-run-out s x m e = no-totals s (record { state = s; next = x }) m refl (λ n f. not-nothing x n e f)
+run-out s x m e = no-totals s (record { state = s; next = x }) m refl (λ f. not-read x e f) (λ n f. not-nothing x n e f)
 
 -- a turn that feeds a piece
 module _ (s : State) (p out : List ℕ) (t : Turn) (out′ : List ℕ) (m : Come s) (a : Answered s p out t out′) where
@@ -122,12 +125,13 @@ module _ (s : State) (p out : List ℕ) (t : Turn) (out′ : List ℕ) (m : Come
   fed-ended Broken e f n r = absurd f
   fed-ended NoRoom e f n r = absurd f
 
-  fed-run : Run t
-  fed-run =
+  fed-run : (t .next ≡ Read → ⊥) → Run t
+  fed-run o =
       record {
         calls = with-it;
         made = made-more;
         state-is = sym its-state;
+        over = o;
         ended = fed-ended (verdict s p (length out)) refl (a .next-is);
       }
 
@@ -139,14 +143,15 @@ come-on (pos zero) s l out t out′ m (u, n) r = absurd (not-both (t .next) (clo
 come-on (pos (suc k)) s l out t out′ m a r = fed-on s (take (suc k) l) out t out′ m a (verdict s (take (suc k) l) (length out)) refl (a .next-is) r
 
 -- the last turn
-pub run : (got : ℤ) (s : State) (l out : List ℕ) (t : Turn) (out′ : List ℕ) → Come s → AfterRead got s l out t out′ → Run t
+pub run : (got : ℤ) (s : State) (l out : List ℕ) (t : Turn) (out′ : List ℕ) → Come s → AfterRead got s l out t out′ → (t .next ≡ Read → ⊥) → Run t
 unfolding AfterRead
-run (negsuc k) s l out t out′ m (u, n) = no-totals s t m (u .state-is) (λ i f. ⊎-elim (λ g. not-both (t .next) i g f) (λ g. not-nothing (t .next) i g f) n)
-run (pos zero) s l out t out′ m (u, n) =
+run (negsuc k) s l out t out′ m (u, n) o = no-totals s t m (u .state-is) o (λ i f. ⊎-elim (λ g. not-both (t .next) i g f) (λ g. not-nothing (t .next) i g f) n)
+run (pos zero) s l out t out′ m (u, n) o =
     record {
       calls = m .calls;
       made = m .made;
       state-is = u .state-is ∙ sym (m .state-is);
+      over = o;
       ended = λ i f. inl (record { all-accepted = m .all-accepted; number-is = same-number (t .next) (closeNumber (closed s)) i n f ∙ ap (λ (k : State). closeNumber (closed k)) (sym (m .state-is)) });
     }
-run (pos (suc k)) s l out t out′ m a = fed-run s (take (suc k) l) out t out′ m a
+run (pos (suc k)) s l out t out′ m a o = fed-run s (take (suc k) l) out t out′ m a o

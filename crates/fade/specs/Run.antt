@@ -11,6 +11,7 @@ use Rattle.batch.specs.declared.Verdict.{Verdict}
 use Rattle.batch.specs.declared.Verdict.the-variants.{Accepted, Broken, TooManyLines, NoRoom}
 use Rattle.batch.specs.Holding.{fresh}
 use Rattle.batch.specs.Feed.{verdict, fed, outAfter, Did, closed, closeNumber}
+use Rattle.batch.specs.Totals.{totals, endLine}
 use Rattle.batch.specs.Series.{Call, Calls, stateOf, isAccepted}
 use Rattle.fade.specs.declared.Next.{Next}
 use Rattle.fade.specs.declared.Next.the-variants.{Read, Totals, Nothing}
@@ -70,4 +71,12 @@ pub record Run (t : Turn) : Type 0 where
   pub calls : List Call
   pub made : Calls Did fresh calls
   pub state-is : t .state ≡ stateOf fresh calls
+  pub over : t .next ≡ Read → ⊥
   pub ended : (n : ℕ) → t .next ≡ Totals n → AtEnd calls n ⊎ Refused calls n
+
+-- What is printed after the answer lines: "then one line of totals, then `end=8` if a tail is unfinished", and "after the totals it then prints `end=6` alone". Nothing
+-- comes after a failure.
+unfoldable pub lastLines : State → Next → List ℕ
+lastLines s (Totals n) = totals s ++ endLine n
+lastLines s Read = []
+lastLines s Nothing = []

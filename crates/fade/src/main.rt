@@ -14,14 +14,12 @@ use libc::STDIN_FILENO;
 use libc::STDOUT_FILENO;
 ghost use mathlib.Core.Path.{_≡_};
 ghost use mathlib.Core.Bool.{false};
-ghost use mathlib.Core.List.{_++_};
 ghost use Prim.Native.Nat.{ℕ, _+_, _*_, _≤_};
 ghost use lib.IntN.{ℤ};
 ghost use lib.ListN.{length, take};
 ghost use Rattle.batch.specs.Feed.{more, closed, closeNumber};
 ghost use Rattle.batch.specs.Holding.{overLong, broken};
-ghost use Rattle.batch.specs.Totals.{totals, endLine};
-ghost use Rattle.fade.specs.Run.{OrNothing, AfterFeed, Answered, AfterRead, Run};
+ghost use Rattle.fade.specs.Run.{OrNothing, AfterFeed, Answered, AfterRead, Run, lastLines};
 
 // The most bytes that are read at once.
 const PIECE: usize = 8192;
@@ -47,7 +45,7 @@ struct Turn {
     next: Next,
 }
 
-// A text that was printed: as many bytes as the count says.
+// A text to be printed: as many of the bytes as the count says.
 struct Text {
     bytes: [u8; TOTALS],
     count: usize,
@@ -179,12 +177,19 @@ fn answer_input(piece: &mut [u8], out: &mut [u8]) -> Turn
     Turn { state, next }
 }
 
-// Prints the totals, and the end's number if there is one, and returns what was to be printed.
-fn print_totals(state: State, end: u32) -> Text
-    ensures { λ r. ⌜ take (r .count) (r .bytes) ≡ totals state ++ endLine end ⌝ }
+// Prints the totals, and the end's number if there is one, where they come; and returns what that is.
+fn print_totals(turn: Turn) -> Text
+    ensures { λ r. ⌜ take (r .count) (r .bytes) ≡ lastLines (turn .state) (turn .next) ⌝ }
 {
     let mut out = [0u8; TOTALS];
-    let n = batch::write_totals(state, end, &mut out);
+    let next = turn.next;
+    let Next::Totals(end) = next else {
+        return Text {
+            bytes: out,
+            count: 0,
+        };
+    };
+    let n = batch::write_totals(turn.state, end, &mut out);
     print(&out[..n], Next::Nothing);
     Text {
         bytes: out,
@@ -195,9 +200,5 @@ fn print_totals(state: State, end: u32) -> Text
 fn main() {
     let mut piece = [0u8; PIECE];
     let mut out = [0u8; ANSWERS];
-    let turn = answer_input(&mut piece, &mut out);
-    let next = turn.next;
-    if let Next::Totals(end) = next {
-        print_totals(turn.state, end);
-    }
+    print_totals(answer_input(&mut piece, &mut out));
 }
