@@ -28,7 +28,8 @@ AfterFeed TooManyLines r = r ≡ Totals 6
 AfterFeed Broken r = ⊥
 AfterFeed NoRoom r = ⊥
 
--- a turn that feeds the piece p to the state s: the state is the one that feed returns, and all bytes of the output are as feed leaves them
+-- a turn that feeds the piece p to the state s: its state is the one that feed returns, what comes next goes by what feed answers, and every byte of the output is as
+-- feed leaves it
 pub record Answered (s : State) (p out : List ℕ) (t : Turn) (out′ : List ℕ) : Type 0 where
   pub state-is : t .state ≡ fed s p (length out) .state
   pub next-is : AfterFeed (verdict s p (length out)) (t .next)
@@ -65,8 +66,8 @@ pub record Refused (cs : List Call) (n : ℕ) : Type 0 where
   pub last-refused : last .returned .verdict ≡ TooManyLines
   pub number-is : n ≡ 6
 
--- The whole run: a list of calls of feed from a fresh state, as in demand 3, which says what their state holds. Where the totals of that state come, the number after
--- them is as said here.
+-- The turn that ends the reading: there is a list of calls of feed from a fresh state, as in demand 3, which says what they wrote and what their state holds. That state
+-- is the one whose totals come, if no failure was told, and the number after them is that of the end of the input or of the refusal.
 pub record Run (t : Turn) : Type 0 where
   pub calls : List Call
   pub made : Calls Did fresh calls

@@ -1,7 +1,7 @@
 // The batch program: answers the lines of standard input as they come, and prints the totals at its
 // end. It reads pieces of at most 8,192 bytes and prints the answers to each with one write, so it
 // takes no more memory for a longer input. Where it cannot read or write, it says so on standard
-// error and prints no totals.
+// error and prints no totals. What it does between reading and printing is defined in specs/Run.antt.
 use batch::Closed;
 use batch::MORE;
 use batch::OVER_LONG;
@@ -148,7 +148,7 @@ fn after_read(state: State, got: isize, piece: &[u8], out: &mut [u8]) -> Turn
     answer_piece(state, &piece[..n], out)
 }
 
-// Reads a piece and answers it.
+// Reads a piece and answers it: for some number, this is the turn after a read that answered it.
 fn read_piece(state: State, piece: &mut [u8], out: &mut [u8]) -> Turn
     requires { ⌜ broken state ≡ false ⌝ }
     requires { ⌜ overLong + length (now piece) + more * length (now piece) ≤ length (now out) ⌝ }
@@ -177,7 +177,8 @@ fn answer_input(piece: &mut [u8], out: &mut [u8]) -> Turn
     Turn { state, next }
 }
 
-// Prints the totals, and the end's number if there is one, where they come; and returns what that is.
+// Where the totals come, prints them, and the end's number if there is one. Returns the text, which is
+// empty where none comes.
 fn print_totals(turn: Turn) -> Text
     ensures { λ r. ⌜ take (r .count) (r .bytes) ≡ lastLines (turn .state) (turn .next) ⌝ }
 {
