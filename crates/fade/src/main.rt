@@ -1,7 +1,7 @@
 // The batch program: answers the lines of standard input as they come, and prints the totals at its
 // end. It reads pieces of at most 8,192 bytes and prints the answers to each with one write, so it
 // takes no more memory for a longer input. Where it cannot read or write, it says so on standard
-// error and prints no totals.
+// error and prints no totals. What it does between reading and printing is defined in specs/Run.antt.
 use batch::Closed;
 use batch::MORE;
 use batch::OVER_LONG;
@@ -15,9 +15,11 @@ use libc::STDOUT_FILENO;
 ghost use mathlib.Core.Path.{_≡_};
 ghost use mathlib.Core.Bool.{false};
 ghost use Prim.Native.Nat.{ℕ, _+_, _*_, _≤_};
-ghost use lib.ListN.{length};
-ghost use Rattle.batch.specs.Feed.{more};
+ghost use lib.IntN.{ℤ};
+ghost use lib.ListN.{length, take};
+ghost use Rattle.batch.specs.Feed.{more, closed, closeNumber};
 ghost use Rattle.batch.specs.Holding.{overLong, broken};
+ghost use Rattle.fade.specs.Run.{OrNothing, AfterFeed, Answered, AfterRead, Run, lastLines};
 
 // The most bytes that are read at once.
 const PIECE: usize = 8192;
@@ -43,6 +45,12 @@ struct Turn {
     next: Next,
 }
 
+// A text to be printed: as many of the bytes as the count says.
+struct Text {
+    bytes: [u8; TOTALS],
+    count: usize,
+}
+
 // Stands where the program never comes: each call is proved to be one that is not made.
 fn never() -> Next
     requires { ⌜ ⊥ ⌝ }
@@ -51,13 +59,17 @@ fn never() -> Next
 }
 
 // Tells that the reads have run out.
-fn out_of_reads() -> Next {
+fn out_of_reads() -> Next
+    ensures { λ r. ⌜ r ≡ Next.Nothing ⌝ }
+{
     io::write_all(STDERR_FILENO, b"fade: too many reads; no totals\n");
     Next::Nothing
 }
 
 // After a read that failed: one that a signal interrupted is tried again.
-fn not_read() -> Next {
+fn not_read() -> Next
+    ensures { λ r. ⌜ OrNothing Next.Read r ⌝ }
+{
     if os::errno() == EINTR {
         return Next::Read;
     }
@@ -66,7 +78,9 @@ fn not_read() -> Next {
 }
 
 // Writes text to standard output; `next` comes after it, if it could be written.
-fn print(text: &[u8], next: Next) -> Next {
+fn print(text: &[u8], next: Next) -> Next
+    ensures { λ r. ⌜ OrNothing next r ⌝ }
+{
     if io::write_all(STDOUT_FILENO, text) {
         return next;
     }
@@ -79,6 +93,7 @@ fn print_answers(verdict: Verdict, out: &[u8]) -> Next
     requires { ⌜ ((n : ℕ) → verdict ≡ Verdict.Accepted n → n ≤ length (now out)) ⌝ }
     requires { ⌜ (verdict ≡ Verdict.Broken → ⊥) ⌝ }
     requires { ⌜ (verdict ≡ Verdict.NoRoom → ⊥) ⌝ }
+    ensures { λ r. ⌜ AfterFeed verdict r ⌝ }
 {
     match verdict {
         Verdict::Accepted(n) => print(&out[..n], Next::Read),
@@ -91,6 +106,7 @@ fn print_answers(verdict: Verdict, out: &[u8]) -> Next
 // At the end of the input.
 fn at_end(state: State) -> Next
     requires { ⌜ broken state ≡ false ⌝ }
+    ensures { λ r. ⌜ r ≡ Next.Totals (closeNumber (closed state)) ⌝ }
 {
     let closed = batch::close(state);
     match closed {
@@ -100,13 +116,26 @@ fn at_end(state: State) -> Next
     }
 }
 
-// Reads a piece and answers it. The output has room for the answers to any piece.
-fn read_piece(state: State, piece: &mut [u8], out: &mut [u8]) -> Turn
+// Feeds a piece and prints its answers. The output has room for the answers to any piece of this
+// length.
+fn answer_piece(state: State, piece: &[u8], out: &mut [u8]) -> Turn
     requires { ⌜ broken state ≡ false ⌝ }
     requires { ⌜ overLong + length (now piece) + more * length (now piece) ≤ length (now out) ⌝ }
-    ensures { λ r. ⌜ broken (r .state) ≡ false ⌝ }
+    ensures { λ r. ⌜ Answered state (now (piece .entry)) (now (out .entry)) r (now (out .exit)) ⌝ }
 {
-    let got = libc::read(STDIN_FILENO, piece);
+    let fed = batch::feed(state, piece, out);
+    let after = fed.state;
+    let verdict = fed.verdict;
+    let next = print_answers(verdict, out);
+    Turn { state: after, next }
+}
+
+// After a read that answered `got`: answers what was read to the front of `piece`.
+fn after_read(state: State, got: isize, piece: &[u8], out: &mut [u8]) -> Turn
+    requires { ⌜ broken state ≡ false ⌝ }
+    requires { ⌜ overLong + length (now piece) + more * length (now piece) ≤ length (now out) ⌝ }
+    ensures { λ r. ⌜ AfterRead got state (now (piece .entry)) (now (out .entry)) r (now (out .exit)) ⌝ }
+{
     if got < 0 {
         let next = not_read();
         return Turn { state, next };
@@ -116,16 +145,24 @@ fn read_piece(state: State, piece: &mut [u8], out: &mut [u8]) -> Turn
         return Turn { state, next };
     }
     let n = io::count(got, piece);
-    let fed = batch::feed(state, &piece[..n], out);
-    let after = fed.state;
-    let verdict = fed.verdict;
-    let next = print_answers(verdict, out);
-    Turn { state: after, next }
+    answer_piece(state, &piece[..n], out)
+}
+
+// Reads a piece and answers it: for some number, this is the turn after a read that answered it.
+fn read_piece(state: State, piece: &mut [u8], out: &mut [u8]) -> Turn
+    requires { ⌜ broken state ≡ false ⌝ }
+    requires { ⌜ overLong + length (now piece) + more * length (now piece) ≤ length (now out) ⌝ }
+    ensures { λ r. ⌜ broken (r .state) ≡ false ⌝ }
+    ensures { λ r. ⌜ ((got : ℤ) × AfterRead got state (now (piece .exit)) (now (out .entry)) r (now (out .exit))) ⌝ }
+{
+    let got = libc::read(STDIN_FILENO, piece);
+    after_read(state, got, piece, out)
 }
 
 // Reads and answers up to the end of the input.
 fn answer_input(piece: &mut [u8], out: &mut [u8]) -> Turn
     requires { ⌜ overLong + length (now piece) + more * length (now piece) ≤ length (now out) ⌝ }
+    ensures { λ r. ⌜ Run r ⌝ }
 {
     let mut state = batch::fresh();
     for _ in 0..READS {
@@ -140,19 +177,29 @@ fn answer_input(piece: &mut [u8], out: &mut [u8]) -> Turn
     Turn { state, next }
 }
 
-// Prints the totals, and the end's number if there is one.
-fn print_totals(state: State, end: u32) {
+// Where the totals come, prints them, and the end's number if there is one. Returns the text, which is
+// empty where none comes.
+fn print_totals(turn: Turn) -> Text
+    ensures { λ r. ⌜ take (r .count) (r .bytes) ≡ lastLines (turn .state) (turn .next) ⌝ }
+{
     let mut out = [0u8; TOTALS];
-    let n = batch::write_totals(state, end, &mut out);
+    let next = turn.next;
+    let Next::Totals(end) = next else {
+        return Text {
+            bytes: out,
+            count: 0,
+        };
+    };
+    let n = batch::write_totals(turn.state, end, &mut out);
     print(&out[..n], Next::Nothing);
+    Text {
+        bytes: out,
+        count: n,
+    }
 }
 
 fn main() {
     let mut piece = [0u8; PIECE];
     let mut out = [0u8; ANSWERS];
-    let turn = answer_input(&mut piece, &mut out);
-    let next = turn.next;
-    if let Next::Totals(end) = next {
-        print_totals(turn.state, end);
-    }
+    print_totals(answer_input(&mut piece, &mut out));
 }

@@ -1,0 +1,2 @@
+-- The laws of `fade`.
+pub mod Turns

@@ -1,0 +1,15 @@
+-- `not_read` meets its contract: a read, or nothing. Assumes nothing.
+use borrow.Author.Needs.{needs}
+use mathlib.Core.Path.{refl}
+use mathlib.Core.Logic.{inl, inr}
+use Rattle.fade.proofs.not_read.Statement.{statement}
+use Rattle.fade.proofs.not_read.Tie as tie
+
+returns : tie.Need-returns
+returns c = inl refl
+
+returns-2 : tie.Need-returns-2
+returns-2 c = inr refl
+
+pub not-read-spec : {M : Type 1} → statement M
+not-read-spec = tie.close (tie.spec (λ c κs. search needs) returns (λ c. search needs) (λ c κs. search needs) returns-2)
