@@ -34,12 +34,12 @@ from-fresh p = ap (λ (k : State). answerLines (added k p)) (sym after-none) ∙
 
 -- a list of calls with one more
 module _ (c : Call) where
-  calls-more : (s : State) (cs : List Call) → Calls Did s cs → Did (stateOf s cs) (c .piece) (c .out) (c .returned) (c .out-after) → Calls Did s (cs ++ c ∷ [])
+  pub calls-more : (s : State) (cs : List Call) → Calls Did s cs → Did (stateOf s cs) (c .piece) (c .out) (c .returned) (c .out-after) → Calls Did s (cs ++ c ∷ [])
   unfolding Calls stateOf
   calls-more s [] ds d = (d, tt)
   calls-more s (b ∷ cs) (e, ds) d = (e, calls-more (b .returned .state) cs ds d)
 
-  state-more : (s : State) (cs : List Call) → stateOf s (cs ++ c ∷ []) ≡ c .returned .state
+  pub state-more : (s : State) (cs : List Call) → stateOf s (cs ++ c ∷ []) ≡ c .returned .state
   unfolding stateOf
   state-more s [] = refl
   state-more s (b ∷ cs) = state-more (b .returned .state) cs

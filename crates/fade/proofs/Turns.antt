@@ -15,6 +15,7 @@ use Rattle.batch.specs.Holding.{fresh, broken}
 use Rattle.batch.specs.Feed.{verdict, number, fed, Did, closed, closeNumber}
 use Rattle.batch.specs.Series.{Call, Calls, stateOf, isAccepted}
 use Rattle.batch.proofs.Unbroken.{fed-unbroken}
+use Rattle.batch.proofs.InPieces.{calls-more, state-more}
 use Rattle.fade.specs.declared.Next.{Next}
 use Rattle.fade.specs.declared.Next.the-variants.{Read, Totals, Nothing}
 use Rattle.fade.specs.declared.Turn.{Turn}
@@ -27,18 +28,8 @@ turn-unbroken (negsuc k) s l out t out′ h (u, n) = ap broken (u .state-is) ∙
 turn-unbroken (pos zero) s l out t out′ h (u, n) = ap broken (u .state-is) ∙ h
 turn-unbroken (pos (suc k)) s l out t out′ h a = ap broken (a .state-is) ∙ fed-unbroken s h (take (suc k) l) (length out)
 
--- a list of calls with one more
+-- a list of accepted calls with one more
 module _ (c : Call) where
-  calls-more : (s : State) (cs : List Call) → Calls Did s cs → Did (stateOf s cs) (c .piece) (c .out) (c .returned) (c .out-after) → Calls Did s (cs ++ c ∷ [])
-  unfolding Calls stateOf
-  calls-more s [] ds d = (d, tt)
-  calls-more s (b ∷ cs) (e, ds) d = (e, calls-more (b .returned .state) cs ds d)
-
-  state-more : (s : State) (cs : List Call) → stateOf s (cs ++ c ∷ []) ≡ c .returned .state
-  unfolding stateOf
-  state-more s [] = refl
-  state-more s (b ∷ cs) = state-more (b .returned .state) cs
-
   accepted-more : (cs : List Call) → AllAccepted cs → isAccepted c ≡ true → AllAccepted (cs ++ c ∷ [])
   unfolding AllAccepted
   accepted-more [] es a = (a, tt)
