@@ -13,7 +13,8 @@ pub struct DoubleDouble {
 }
 
 impl DoubleDouble {
-    // a in two parts: hi is a rounded to 26 binary digits and lo the rest, where nothing overflows.
+    // a in two parts: hi is a rounded to 26 binary digits and lo the rest, where nothing overflows;
+    // that is not proved here.
     pub fn split(a: f64) -> DoubleDouble
         ensures { λ r. ⌜ r ≡ spec.split a ⌝ }
     {
@@ -25,7 +26,8 @@ impl DoubleDouble {
         DoubleDouble { lo: r_lo, hi: r_hi }
     }
 
-    // a * b and its error, where nothing overflows or underflows.
+    // a * b and its error, which is exact where nothing overflows or underflows; that it is exact is
+    // not proved here.
     pub fn from_exact_mult(a: f64, b: f64) -> DoubleDouble
         ensures { λ r. ⌜ r ≡ spec.fromExactMult a b ⌝ }
     {
@@ -39,7 +41,8 @@ impl DoubleDouble {
         DoubleDouble { lo: r_lo, hi: r_hi }
     }
 
-    // a + b and its error, which is exact for |a| >= |b|.
+    // a + b and its error, which is exact for |a| >= |b| where nothing overflows; that it is exact is
+    // not proved here.
     pub fn from_exact_add(a: f64, b: f64) -> DoubleDouble
         ensures { λ r. ⌜ r ≡ spec.fromExactAdd a b ⌝ }
     {
@@ -49,7 +52,8 @@ impl DoubleDouble {
         DoubleDouble { lo: r_lo, hi: r_hi }
     }
 
-    // a + b and its error, in whichever order of size.
+    // a + b and its error, which is exact in whichever order of size where nothing overflows; that it
+    // is exact is not proved here.
     pub fn from_full_exact_add(a: f64, b: f64) -> DoubleDouble
         ensures { λ r. ⌜ r ≡ spec.fromFullExactAdd a b ⌝ }
     {

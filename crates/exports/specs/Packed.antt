@@ -3,7 +3,7 @@ use Prim.Native.Nat.{ℕ, _+_, _*_, _^_}
 use lib.Ieee.{binary32, toBits}
 use Rattle.compound.specs.Answer.{Via, rule, whole, edge, fast, slow, Outcome}
 
--- the routes by number, in the order of document 01
+-- the routes by number, in the order in which document 01 names them; the numbers are ours and not the document's
 unfoldable pub number : Via → ℕ
 number rule = 0
 number whole = 1

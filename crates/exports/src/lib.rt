@@ -1,8 +1,9 @@
 // The functions that Rust and C can call, under the C calling convention: numbers pass as
-// themselves, a slice as a pointer and a length, a double-double as a C struct of two doubles, lo and
-// hi, and the reader's state as a C struct too. Each is one call of the function of the same name
-// below, and says the same of its result, but for two: `fade_compoundf` packs the answer into one
-// number, and `fade_feed` gives its answer as a number and a length. None has a `requires`.
+// themselves, a slice as a pointer and a length, a lent array as a pointer to its first byte, a
+// double-double as a C struct of two doubles, lo and hi, and the reader's state as a C struct too.
+// Each is one call of the function of the same name below, and says the same of its result, but for
+// three: `fade_compoundf` packs the answer into one number, `fade_feed` gives its answer as a number
+// and a length, and `fade_close` gives the number of its answer. None has a `requires`.
 use batch::State;
 use batch::TOTALS;
 use batch::Verdict;
@@ -122,7 +123,8 @@ pub extern "C" fn fade_split(a: f64) -> DoubleDouble
     DoubleDouble::split(a)
 }
 
-// a * b and its error, where nothing overflows or underflows.
+// a * b and its error, which is exact where nothing overflows or underflows; that it is exact is
+// not proved here.
 #[no_mangle]
 pub extern "C" fn fade_from_exact_mult(a: f64, b: f64) -> DoubleDouble
     ensures { λ r. ⌜ r ≡ spec.fromExactMult a b ⌝ }
@@ -130,7 +132,8 @@ pub extern "C" fn fade_from_exact_mult(a: f64, b: f64) -> DoubleDouble
     DoubleDouble::from_exact_mult(a, b)
 }
 
-// a + b and its error, which is exact for |a| >= |b|.
+// a + b and its error, which is exact for |a| >= |b| where nothing overflows; that it is exact is
+// not proved here.
 #[no_mangle]
 pub extern "C" fn fade_from_exact_add(a: f64, b: f64) -> DoubleDouble
     ensures { λ r. ⌜ r ≡ spec.fromExactAdd a b ⌝ }
@@ -138,7 +141,8 @@ pub extern "C" fn fade_from_exact_add(a: f64, b: f64) -> DoubleDouble
     DoubleDouble::from_exact_add(a, b)
 }
 
-// a + b and its error, in whichever order of size.
+// a + b and its error, which is exact in whichever order of size where nothing overflows; that it is
+// exact is not proved here.
 #[no_mangle]
 pub extern "C" fn fade_from_full_exact_add(a: f64, b: f64) -> DoubleDouble
     ensures { λ r. ⌜ r ≡ spec.fromFullExactAdd a b ⌝ }

@@ -3,7 +3,7 @@
 ghost use mathlib.Core.Path.{_≡_};
 ghost use Prim.Native.Nat.{_≤_};
 ghost use lib.Ieee.{binary32, binary64, toBits, ofBits};
-ghost use Rattle.floats.specs.Narrowing.{narrowed};
+ghost use Rattle.floats.specs.Narrowing.{narrowed, NearestF32Ends};
 
 // The f64 of the same value. A NaN gives the NaN.
 pub fn widen(x: f32) -> f64
@@ -45,3 +45,9 @@ fn narrow_magnitude(m: u64) -> u64
     }
     0x7f80_0000
 }
+
+// The nearest f32 to a positive fraction: from 2^128 - 2^103 up it is infinity, and below that it is
+// finite. There is nothing to run: the contract is the theorem.
+pub fn nearest_f32_ends()
+    ensures { λ r. ⌜ NearestF32Ends ⌝ }
+{}

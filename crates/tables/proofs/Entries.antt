@@ -14,6 +14,7 @@ use lib.Ieee.Bits.{ofBits-toBits}
 use lib.Ieee.Exact.{HasValue}
 use lib.Ieee.Fits.{and-l, and-r}
 use Rattle.tables.specs.Tables.{entry, log2p1Scale, compoundfExp2T}
+use Rattle.tables.specs.Rules.{scaleValue, IsExp2T, Rules}
 
 -- ---- a test that passes at every number below n
 abbrev pub passesBelow : ℕ → (ℕ → Bool) → Bool
@@ -36,10 +37,10 @@ unfolding log2p1Scale
 scale-pattern i h = eqb→eq (getD log2p1Scale i 0) ((1052 - i) * 2 ^ 52) (carried 158 (λ (k : ℕ). eqb (getD log2p1Scale k 0) ((1052 - k) * 2 ^ 52)) tt i h)
 
 -- its values: 2^(29 - i)
-pub scale-rule : (i : ℕ) → i < 158 → entry log2p1Scale i ≡ fin false 1 (minus 29 i)
+pub scale-rule : (i : ℕ) → i < 158 → entry log2p1Scale i ≡ scaleValue i
 unfolding entry log2p1Scale fits toBits
 scale-rule i h =
-    let x : ℕ → Float = λ (k : ℕ). fin false 1 (minus 29 k) in
+    let x = scaleValue in
     let t = carried 158 (λ (k : ℕ). fits binary64 (x k) && eqb (getD log2p1Scale k 0) (toBits binary64 (x k))) tt i h in
     ap (ofBits binary64) (eqb→eq (getD log2p1Scale i 0) (toBits binary64 (x i)) (and-r (fits binary64 (x i)) (eqb (getD log2p1Scale i 0) (toBits binary64 (x i))) t))
     ∙ ofBits-toBits binary64 (x i) (and-l (fits binary64 (x i)) (eqb (getD log2p1Scale i 0) (toBits binary64 (x i))) t)
@@ -62,10 +63,18 @@ value-of-test (fin u m e) s a c t = (same u s (and-l (Bool·beq u s) (eqb (m * u
     same false true t = absurd t
     same false false t = refl
 
--- its values: (i - 16)/32, exactly. Below 16 the sign is that of a negative number and the size is (16 - i)/32; from 16 up it is (i - 16)/32.
-pub exp2t-rule : (i : ℕ) → i < 33 → HasValue (entry compoundfExp2T i) (ltb i 16) (16 - i + (i - 16)) 32
+-- the values of a table, tested over the whole of it
+by-test : (n : ℕ) (x : ℕ → Float) (s : ℕ → Bool) (a : ℕ → ℕ) (c : ℕ) → T (passesBelow n (λ (k : ℕ). hasValue (x k) (s k) (a k) c)) → (i : ℕ) → i < n → HasValue (x i) (s i) (a i) c
+by-test n x s a c t i h = value-of-test (x i) (s i) (a i) c (carried n (λ (k : ℕ). hasValue (x k) (s k) (a k) c) t i h)
+
+-- its values: (i - 16)/32, exactly
+pub exp2t-rule : (i : ℕ) → i < 33 → IsExp2T i (entry compoundfExp2T i)
 unfolding entry compoundfExp2T ofBits
-exp2t-rule i h = value-of-test (entry compoundfExp2T i) (ltb i 16) (16 - i + (i - 16)) 32 (carried 33 (λ (k : ℕ). hasValue (entry compoundfExp2T k) (ltb k 16) (16 - k + (k - 16)) 32) tt i h)
+exp2t-rule = by-test 33 (entry compoundfExp2T) _ _ _ tt
+
+-- ---- both
+pub rules : Rules
+rules = record { scale = scale-rule; exp2-t = exp2t-rule }
 
 -- ---- all tables
 -- no entry is a NaN's pattern, so that each is read as it stands

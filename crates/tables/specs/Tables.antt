@@ -1,6 +1,6 @@
 -- Document 01, "Table path": the tables, as patterns of f64, lowest index first. LOG2P1_SCALE and COMPOUNDF_EXP2_T have a rule in the
--- document, which proofs/Entries.antt shows at every entry; the other seven are the source's numbers. A pair is (lo, hi), as in the source. Past its end a
--- table reads as 0, and no index gets there.
+-- document (specs/Rules.antt); the other seven are the source's numbers. A pair is (lo, hi), as in the source. Past its end a table reads as
+-- 0, which only makes `entry` total: each function of the crate asks for an index inside its table, so none gives that 0.
 use Prim.Native.Nat.{ℕ}
 use mathlib.Core.List.{List, [], _∷_}
 use lib.ListN.{getD}

@@ -7,6 +7,7 @@ ghost use mathlib.Core.Path.{_≡_};
 ghost use Prim.Native.Nat.{_<_};
 ghost use lib.ListN.{getD};
 ghost use Rattle.tables.specs.Tables as spec;
+ghost use Rattle.tables.specs.Rules.{Rules};
 
 // The patterns of a double-double: lo, then hi.
 struct Bits(u64, u64);
@@ -539,3 +540,9 @@ fn poly_q2_bits(i: u64) -> u64
         _ => i,
     }
 }
+
+// The rules of LOG2P1_SCALE and COMPOUNDF_EXP2_T, at every entry. There is nothing to run: the
+// contract is the theorem.
+pub fn table_rules()
+    ensures { λ r. ⌜ Rules ⌝ }
+{}

@@ -14,7 +14,7 @@ use lib.Ieee.Nearest.{closest}
 use lib.Ieee.Order.{drop, round-mono}
 use lib.Ieee.Exact.{HasValue}
 use lib.Ieee.Scale.{grid, overflow, finite}
-use Rattle.floats.specs.Narrowing.{nearestF32}
+use Rattle.floats.specs.Narrowing.{nearestF32, infiniteFrom, NearestF32Ends}
 use Rattle.floats.proofs.Laws.Closest.{closest-above}
 use Rattle.floats.proofs.Laws.Place.{kept-le}
 use Rattle.floats.proofs.Laws.Rounding.{round-value, neg-round}
@@ -105,11 +105,14 @@ finite-of-value nan s a c v = absurd v
 finite-of-value (inf t) s a c v = absurd v
 finite-of-value (fin t m e) s a c v = tt
 
-pub nearest-f32-infinite : (a c : ℕ) → 0 < c → (2 ^ 128 - 2 ^ 103) * c ≤ a → nearestF32 a c ≡ inf false
+pub nearest-f32-infinite : (a c : ℕ) → 0 < c → infiniteFrom * c ≤ a → nearestF32 a c ≡ inf false
 unfolding nearestF32
 nearest-f32-infinite a c C h = round-overflows binary32 false a c C h
 
-pub nearest-f32-finite : (a c : ℕ) → 0 < c → a < (2 ^ 128 - 2 ^ 103) * c → T (finite (nearestF32 a c))
+pub nearest-f32-finite : (a c : ℕ) → 0 < c → a < infiniteFrom * c → T (finite (nearestF32 a c))
 unfolding nearestF32
 nearest-f32-finite a c C h =
     finite-of-value (round binary32 false a c) false (grid binary32 a c) (2 ^ 149) (round-value binary32 false a c (round-stays binary32 a c C h))
+
+pub nearest-f32-ends : NearestF32Ends
+nearest-f32-ends = record { infinite = nearest-f32-infinite; finite-below = nearest-f32-finite }

@@ -53,7 +53,7 @@ loop-again c =
     let l = c .before .before .loop in
     let p = c .before .before .before .args in (
       omega arith,
-      length-set (l .out) (p .at + l .i) (getD (now (p .text)) (l .i) 0) ∙ l .inv .1,
+      length-set (l .out) (p .at + l .i) _ ∙ l .inv .1,
       ap (λ (o : List ℕ). set o (p .at + l .i) (getD (now (p .text)) (l .i) 0)) (l .inv .2)
           ∙ more (now (p .out)) (now (p .text)) (p .at) (l .i) (c .before .before .before .pre) (c .before .loop-test .taken),
     )
