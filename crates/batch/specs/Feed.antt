@@ -57,7 +57,7 @@ verdict s p room =
     (cond (ltb mostLines (s .lines + feeds p)) TooManyLines
     (cond (ltb room (length (answerLines (added s p)))) NoRoom (Accepted (length (answerLines (added s p))))))
 
--- the numbers of the refusals; an accepted feed has none
+-- the numbers of the refusals; 0 stands for an accepted feed
 unfoldable pub number : Verdict → ℕ
 number (Accepted n) = 0
 number Broken = 5
@@ -91,7 +91,7 @@ pub record Did (s : State) (p out : List ℕ) (r : Fed) (out′ : List ℕ) : Ty
 unfoldable pub closed : State → Closed
 closed s = cond (broken s) BrokenState (cond (eqb (s .tail .count) 0) Whole Unfinished)
 
--- the numbers of the refusals; an accepted close has none
+-- the numbers of the refusals; 0 stands for an accepted close
 unfoldable pub closeNumber : Closed → ℕ
 closeNumber Whole = 0
 closeNumber BrokenState = 5
