@@ -11,9 +11,9 @@ ghost use Rattle.batch.specs.Holding.{Sound};
 ghost use Rattle.batch.specs.Carry.{carryOn};
 
 // A piece, and the position up to which it has been read.
-pub(crate) struct Piece<'a> {
-    pub bytes: &'a [u8],
-    pub at: usize,
+struct Piece<'a> {
+    bytes: &'a [u8],
+    at: usize,
 }
 
 // A line that was carried on: the tail that holds it, and the position where it stopped, at a line
@@ -24,14 +24,14 @@ pub(crate) struct Carried {
 }
 
 // A piece that has been read up to a position.
-pub(crate) fn piece_at<'a>(bytes: &'a [u8], at: usize) -> Piece<'a>
+fn piece_at<'a>(bytes: &'a [u8], at: usize) -> Piece<'a>
     ensures { λ r. ⌜ (r .bytes ≡ bytes .entry) × (r .at ≡ at) ⌝ }
 {
     Piece { bytes, at }
 }
 
 // The work: carries on the line that the tail holds, from a position up to the next line feed.
-pub(crate) fn carry_from(bytes: &[u8], at: usize, tail: Tail) -> Carried
+fn carry_from(bytes: &[u8], at: usize, tail: Tail) -> Carried
     requires { ⌜ (at ≤ length (now bytes)) × Sound tail ⌝ }
     ensures { λ r. ⌜ r ≡ carryOn tail (now (bytes .entry)) at ⌝ }
 {
@@ -41,7 +41,7 @@ pub(crate) fn carry_from(bytes: &[u8], at: usize, tail: Tail) -> Carried
 }
 
 // The same of a piece, from its position.
-pub(crate) fn carry<'a>(piece: Piece<'a>, tail: Tail) -> Carried
+fn carry<'a>(piece: Piece<'a>, tail: Tail) -> Carried
     requires { ⌜ (piece .at ≤ length (now (piece .bytes))) × Sound tail ⌝ }
     ensures { λ r. ⌜ r ≡ carryOn tail (now (piece .entry .bytes)) (piece .entry .at) ⌝ }
 {
