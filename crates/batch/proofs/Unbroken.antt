@@ -15,7 +15,7 @@ use Rattle.batch.specs.declared.Tail.{Tail}
 use Rattle.batch.specs.declared.State.{State}
 use Rattle.batch.specs.declared.Verdict.{Verdict}
 use Rattle.batch.specs.declared.Verdict.the-variants.{Accepted, Broken, TooManyLines, NoRoom}
-use Rattle.batch.specs.declared.Closed.the-variants.{Whole, BrokenState, Unfinished}
+use Rattle.batch.specs.declared.Closed.the-variants.{Finished, BrokenState, Unfinished}
 use Rattle.batch.specs.Complete.{linesFrom, restFrom, feeds}
 use Rattle.batch.specs.Tally.{counts, total}
 use Rattle.batch.specs.Holding.{overLong, zeros, hold, carried, Sound, unused, broken}
@@ -195,7 +195,7 @@ module _ (s : State) (h : broken s ≡ false) where
   unfolding closed
   close-not-five e = by (eqb (s .tail .count) 0) (rw h at e)
     where
-      by : (t : Bool) → cond t Whole Unfinished ≡ BrokenState → ⊥
+      by : (t : Bool) → cond t Finished Unfinished ≡ BrokenState → ⊥
       by true f = let z : _≡_ {A = ℕ} 0 1 = cc in omega arith
       by false f = let z : _≡_ {A = ℕ} 0 1 = cc in omega arith
 

@@ -14,7 +14,7 @@ use Rattle.batch.specs.declared.Verdict.{Verdict}
 use Rattle.batch.specs.declared.Verdict.the-variants.{Accepted, Broken, TooManyLines, NoRoom}
 use Rattle.batch.specs.declared.Fed.{Fed}
 use Rattle.batch.specs.declared.Closed.{Closed}
-use Rattle.batch.specs.declared.Closed.the-variants.{Whole, BrokenState, Unfinished}
+use Rattle.batch.specs.declared.Closed.the-variants.{Finished, BrokenState, Unfinished}
 
 -- 4,294,967,295
 abbrev pub mostLines : ℕ
@@ -89,10 +89,10 @@ pub record Did (s : State) (p out : List ℕ) (r : Fed) (out′ : List ℕ) : Ty
 
 -- what close answers: "close in the order 5, 8"
 unfoldable pub closed : State → Closed
-closed s = cond (broken s) BrokenState (cond (eqb (s .tail .count) 0) Whole Unfinished)
+closed s = cond (broken s) BrokenState (cond (eqb (s .tail .count) 0) Finished Unfinished)
 
 -- the numbers of the refusals; 0 stands for an accepted close
 unfoldable pub closeNumber : Closed → ℕ
-closeNumber Whole = 0
+closeNumber Finished = 0
 closeNumber BrokenState = 5
 closeNumber Unfinished = 8

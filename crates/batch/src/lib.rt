@@ -78,7 +78,7 @@ pub struct Fed {
 
 // What close answers: the input ended with a whole line, or why not, 5 and 8 in this order.
 pub enum Closed {
-    Whole,
+    Finished,
     BrokenState,
     Unfinished,
 }
@@ -150,7 +150,7 @@ pub fn close(state: State) -> Closed
     }
     let tail = state.tail;
     if tail.count == 0 {
-        Closed::Whole
+        Closed::Finished
     } else {
         Closed::Unfinished
     }
@@ -161,7 +161,7 @@ pub fn close_number(closed: Closed) -> u32
     ensures { λ r. ⌜ r ≡ closeNumber closed ⌝ }
 {
     match closed {
-        Closed::Whole => 0,
+        Closed::Finished => 0,
         Closed::BrokenState => 5,
         Closed::Unfinished => 8,
     }

@@ -110,7 +110,7 @@ fn at_end(state: State) -> Next
 {
     let closed = batch::close(state);
     match closed {
-        Closed::Whole => Next::Totals(batch::close_number(closed)),
+        Closed::Finished => Next::Totals(batch::close_number(closed)),
         Closed::Unfinished => Next::Totals(batch::close_number(closed)),
         Closed::BrokenState => never(),
     }
