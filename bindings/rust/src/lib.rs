@@ -73,7 +73,8 @@ pub struct Answer {
 pub enum Route {
     /// x <= -1, or x or y is a zero, an infinity or a NaN: the special table answers.
     Rule,
-    /// y is whole and at most 16 in size: 1 + x is multiplied out.
+    /// y is whole and at most 16 in size, x below 2^64: 1 + x is multiplied out, or the answer is 1
+    /// for an x of at most 2^-29 in size.
     Whole,
     /// The answer underflows to 0, overflows to infinity, or is 1 because 1 + x lost x.
     Edge,
