@@ -1,4 +1,4 @@
-// The functions of the static library, and all of this crate's unsafe code. The library is proved: none
+// The functions of the static libraries, and all of this crate's unsafe code. They are proved: none
 // of these functions asks anything of the values that it gets, and none keeps a pointer after it
 // returns. What is left to see to is that the declarations fit the library, and that the memory that is
 // lent is there.

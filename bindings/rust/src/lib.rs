@@ -1,8 +1,9 @@
 //! Battery fade factors, (1+x)^y in f32, and the reader of batch lines.
 //!
-//! A thin layer over a static library whose functions are proved; `rt staticlib exports` builds it.
+//! A thin layer over two static libraries whose functions are proved; `rt staticlib exports` and
+//! `rt staticlib batch_exports` build them.
 //! Every function here takes every value of its types. Before a pack is sized on an answer, read
-//! docs/ERROR-BUDGET.md. The library holds code translated from the crate pxfm 0.1.30
+//! docs/ERROR-BUDGET.md. The libraries hold code translated from the crate pxfm 0.1.30
 //! (BSD-3-Clause OR Apache-2.0; NOTICE has both licences).
 //!
 //! ```

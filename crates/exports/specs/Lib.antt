@@ -1,3 +1,2 @@
 -- The definitions that the contracts of `exports` cite.
 pub mod Packed
-pub mod Handed

@@ -2,8 +2,8 @@
 use borrow.Author.Needs.{needs}
 use mathlib.Core.Path.{_∙_, ap}
 use Rattle.batch.specs.Feed.{closeNumber}
-use Rattle.exports.proofs.fade_close.Statement.{statement}
-use Rattle.exports.proofs.fade_close.Tie as tie
+use Rattle.batch_exports.proofs.fade_close.Statement.{statement}
+use Rattle.batch_exports.proofs.fade_close.Tie as tie
 
 returns : tie.Need-returns
 returns c = c .close-number .ensures ∙ ap closeNumber (c .before .close .ensures)

@@ -8,10 +8,10 @@ use Rattle.batch.specs.declared.State.{State}
 use Rattle.batch.specs.declared.Fed.{Fed}
 use Rattle.batch.specs.Feed.{Did, fed, verdict, outAfter, number}
 use Rattle.batch.specs.Series.{said}
-use Rattle.exports.specs.declared.Handed.{Handed}
-use Rattle.exports.specs.Handed.{handed}
-use Rattle.exports.proofs.fade_feed.Statement.{statement}
-use Rattle.exports.proofs.fade_feed.Tie as tie
+use Rattle.batch_exports.specs.declared.Handed.{Handed}
+use Rattle.batch_exports.specs.Handed.{handed}
+use Rattle.batch_exports.proofs.fade_feed.Statement.{statement}
+use Rattle.batch_exports.proofs.fade_feed.Tie as tie
 
 abbrev parts : State → ℕ → ℕ → Handed
 parts s n w = record { state = s; number = n; wrote = w }

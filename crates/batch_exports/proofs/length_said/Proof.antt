@@ -2,8 +2,8 @@
 use borrow.Author.Needs.{needs}
 use mathlib.Core.Path.{sym, ap}
 use Rattle.batch.specs.Series.{said}
-use Rattle.exports.proofs.length_said.Statement.{statement}
-use Rattle.exports.proofs.length_said.Tie as tie
+use Rattle.batch_exports.proofs.length_said.Statement.{statement}
+use Rattle.batch_exports.proofs.length_said.Tie as tie
 
 returns : tie.Need-returns
 unfolding said

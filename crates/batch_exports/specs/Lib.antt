@@ -1,0 +1,2 @@
+-- The definitions that the contracts of `batch_exports` cite.
+pub mod Handed
