@@ -4,15 +4,15 @@
  * A thin layer over two static libraries whose functions are proved. `rt staticlib exports` and
  * `rt staticlib batch_exports` write libexports.a and libbatch_exports.a to target/staticlib; a program
  * that includes this header is linked with both, or with the first alone if it does not use the reader.
- * Before a pack is sized on an answer, read docs/ERROR-BUDGET.md. They hold code translated from the Rust crate
- * pxfm 0.1.30 (BSD-3-Clause OR Apache-2.0; NOTICE has both licences). Names that begin with
- * fade_internal_ are not for callers.
+ * Before a pack is sized on an answer, read docs/ERROR-BUDGET.md. The libraries hold code translated
+ * from the Rust crate pxfm 0.1.30 (BSD-3-Clause OR Apache-2.0; NOTICE has both licences). Names that
+ * begin with fade_internal_ are not for callers.
  */
 #ifndef FADE_H
 #define FADE_H
 
 #if !defined(__x86_64__) || !defined(__linux__)
-#error "the library is for x86_64 Linux alone, and this is another target"
+#error "the libraries are for x86_64 Linux alone, and this is another target"
 #endif
 
 #include <stddef.h>

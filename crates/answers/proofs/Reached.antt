@@ -1,18 +1,18 @@
 -- No pair comes to a NaN t, to an index that is cut or to a k that is cut: the three statements of specs/Reached.antt, for every pair of patterns. An answer of the route `slow` has
 -- failed the tests of the other four, which is what the theorems of Slow/SlowSign.antt ask. Assumes nothing.
 use mathlib.Core.Path.{_≡_, refl, sym, ap}
-use mathlib.Core.Bool.{Bool, true, false, not, cond, _&&_, _||_, true≢false}
+use mathlib.Core.Bool.{Bool, true, false, not, cond, true≢false}
 use Prim.Native.Nat.{ℕ, _-_, _*_, _%_, _^_, _≤_, _<_}
-use native.Mathlib.Nat.{le-trans, le-of-eq, le-antisymm, mul-one}
+use native.Mathlib.Nat.{le-trans, le-of-eq, mul-one}
 use native.Mathlib.Omega.{arith}
-use lib.Dec.{T, leb, ltb, eqb, nltb→le}
+use lib.Dec.{T, leb}
 use lib.IntN.{pos}
 use lib.Ieee.{Float, nan, inf, fin, binary32, binary64, up, down, fits, lt, le, eq, ofBits, toBits}
 use lib.Ieee.Bits.{ofBits-fits}
-use lib.Ieee.Fits.{and-i, eq→eqb}
 use Rattle.floats.specs.Operations.{_⊗_}
 use Rattle.floats.specs.OnBits.{absolute}
 use Rattle.floats.proofs.Laws.Sums.{SizeAtMost}
+use Rattle.bounds.proofs.Compared.{at-most}
 use Rattle.compound.specs.Answer.{Via, rule, whole, edge, fast, slow}
 use Rattle.compound.specs.Special as Special
 use Rattle.compound.specs.Special.{isRule, special}
@@ -63,14 +63,6 @@ not-past r p = go (powerPlace r) (p .1)
   where
     go : (n : ℕ) → n - 0x10010 < 33 → n ≤ 0x10030
     go n h = omega arith
-
--- a ≤ b, as the test has it
-at-most : (a b : ℕ) → a ≤ b → T (ltb a b || (eqb a b && true))
-at-most a b h = go (ltb a b) (nltb→le a b)
-  where
-    go : (v : Bool) → (T (not v) → b ≤ a) → T (v || (eqb a b && true))
-    go true g = tt
-    go false g = and-i (eqb a b) true (eq→eqb (le-antisymm h (g tt))) tt
 
 at-most-1000 : (k : Float) → SizeAtMost 1000 k → T (le (absolute k) (fin false 125 (pos 3)))
 unfolding le lt eq absolute

@@ -41,8 +41,8 @@ le-units =
     le-of-mul-le-mul-right (le-trans (le-of-eq (sym (side s m e t n d f g))) (le-trans (mul-le-mul-right (2 ^ 1074) (le-says s m e t n d h)) (le-of-eq (other-side s m e t n d f g))))
     (mul-pos (down-pos e) (down-pos d)))
 
--- ±a ≤ ±b, as the test has it
-at-most : (a b : ℕ) → a ≤ b → T (ltb a b || (eqb a b && true))
+-- a ≤ b, and ±a ≤ ±b below, as the test has it
+pub at-most : (a b : ℕ) → a ≤ b → T (ltb a b || (eqb a b && true))
 at-most a b h = go (ltb a b) (nltb→le a b)
   where
     go : (v : Bool) → (T (not v) → b ≤ a) → T (v || (eqb a b && true))
