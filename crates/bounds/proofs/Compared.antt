@@ -1,18 +1,20 @@
 -- The order of two finite f64s in units of 2^-1074 (`le-units`, `le-of-units`); values between two positive numbers on the scale of 1 (`Positive`), through a product
--- and a sum; the patterns of such values (`positive-bits`, `bits-from-two`). Assumes nothing.
+-- and a sum; the patterns of such values (`positive-bits`, `bits-from-two`, `bits-around-one`), which from 1/2 to 2 are no further from each other than the values (`bits-apart`). Assumes nothing.
 use mathlib.Core.Path.{_≡_, refl, sym, ap, ap₂, _∙_, subst}
 use mathlib.Core.Logic.{_⊎_, inl, inr}
 use mathlib.Core.Bool.{Bool, true, false, not, _&&_, _||_}
-use Prim.Native.Nat.{ℕ, _+_, _-_, _*_, _/_, _^_, _≤_, _<_}
-use native.Mathlib.Nat.{le-trans, le-of-eq, le-antisymm, lt-of-le-of-lt, lt-of-lt-of-le, le-of-mul-le-mul-right, mul-comm, mul-right-comm, mul-le-mul, mul-le-mul-right, mul-pos, add-mul, add-zero, zero-add, le-add-right, mul-mul-mul-comm, mul-lt-mul-of-pos-right, not-le-of-lt, add-comm, add-mul-div-right, div-div-eq-div-mul, div-mul-le-self, div-lt-iff-lt-mul}
+use Prim.Native.Nat.{ℕ, suc, _+_, _-_, _*_, _/_, _^_, _≤_, _<_}
+use native.Mathlib.Nat.{le-trans, le-of-eq, le-antisymm, lt-of-le-of-lt, lt-of-lt-of-le, le-of-mul-le-mul-right, mul-comm, mul-right-comm, mul-le-mul, mul-le-mul-right, mul-pos, add-mul, add-zero, zero-add, le-add-right, mul-mul-mul-comm, mul-lt-mul-of-pos-right, not-le-of-lt, add-comm, add-mul-div-right, div-div-eq-div-mul, div-mul-le-self, div-lt-iff-lt-mul, le-div-iff-mul-le}
 use native.Mathlib.Omega.{arith}
 use lib.Dec.{T, leb, ltb, eqb, leb→le, nleb→lt, ltb→lt, nltb→le, eqb→eq, lit≤, lit<}
-use lib.Pow.{pow-pos}
+use lib.Pow.{pow-pos, shr-mono}
 use lib.IntN.{ℤ}
-use lib.Ieee.{Float, nan, inf, fin, binary64, up, down, size, le, below, level, fits, toBits}
+use lib.Ieee.{Float, nan, inf, fin, binary64, up, down, le, lt, below, level, fits, toBits, isNan}
+use lib.Ieee.Scale.{finite}
 use lib.Ieee.Fits.{and-i, and-l, and-r, eq→eqb, down-pos}
 use Rattle.floats.specs.Operations.{_⊕_, _⊗_}
 use Rattle.floats.proofs.Laws.Place.{size-exact, place-below, place-above}
+use Rattle.floats.proofs.Laws.Compare.{key, not-leb, lt-by-key, le-by-key}
 use Rattle.floats.proofs.Laws.Order.{le-below, bits-of-clear, under-zero}
 use Rattle.floats.proofs.Laws.Sums.{above, under, above-times, under-times, le-says, SizeAtMost}
 use Rattle.floats.proofs.Laws.Units.{exponent, in-units}
@@ -214,21 +216,67 @@ positive-at {a} {b} c d p t u = record {
   most = le-trans (p .most) (mul-le-mul-right S (leb→le b d u));
 }
 
--- ---- the pattern of what is from 2 to 4: its digits are the number of 2^-51 in it
-two-digits : (X : ℕ) → 2 ^ 54 * S ≤ X → X ≤ (2 ^ 55 - 1) * S → size X ≡ 1076
-unfolding S
-two-digits X l m = size-exact 1075 X (le-trans (lit≤ tt) l) (lt-of-le-of-lt m (lit< tt))
-
-pub bits-from-two : {x : Float} → Positive (2 ^ 54) (2 ^ 55 - 1) x → toBits binary64 x ≡ 1023 * 2 ^ 52 + plus x / 2 ^ 1023
-bits-from-two {x} p = go x (p .number) (p .clear) (p .least) (p .most)
+-- ---- the pattern by the exponent's field: for what is from 2^(52 + i) to 2^(53 + i) units, its digits are the number of 2^i units in it
+bits-by-field : (i : ℕ) (x : Float) → Number x → less x ≡ 0 → 2 ^ (52 + i) ≤ plus x → plus x < 2 ^ suc (52 + i) → toBits binary64 x ≡ i * 2 ^ 52 + plus x / 2 ^ i
+bits-by-field i nan n c l m = absurd (n .plain)
+bits-by-field i (inf s) n c l m = absurd (n .plain)
+bits-by-field i (fin true k e) n c l m = absurd (not-le-of-lt (pow-pos (52 + i)) l)
+bits-by-field i (fin false k e) n c l m =
+    let X = k * 2 ^ exponent 1074 e in
+    bits-of-clear binary64 k e (n .held) ∙ ap (λ (z : ℕ). z * 2 ^ 52 + X / 2 ^ z) (ap (λ (z : ℕ). z - 53) (size-exact (52 + i) X l m) ∙ back i)
   where
-    go : (x : Float) → Number x → less x ≡ 0 → 2 ^ 54 * S ≤ plus x → plus x ≤ (2 ^ 55 - 1) * S → toBits binary64 x ≡ 1023 * 2 ^ 52 + plus x / 2 ^ 1023
-    go nan n c l m = absurd (n .plain)
-    go (inf s) n c l m = absurd (n .plain)
-    go (fin true k e) n c l m = absurd (not-le-of-lt (mul-pos (lit< tt) S-pos) l)
-    go (fin false k e) n c l m =
-        let X = k * 2 ^ exponent 1074 e in
-        bits-of-clear binary64 k e (n .held) ∙ ap (λ (z : ℕ). (z - 53) * 2 ^ 52 + X / 2 ^ (z - 53)) (two-digits X l m)
+    back : (i : ℕ) → suc (52 + i) - 53 ≡ i
+    back i = omega arith
+
+-- from 2 to 4
+pub bits-from-two : {x : Float} → Positive (2 ^ 54) (2 ^ 55 - 1) x → toBits binary64 x ≡ 1023 * 2 ^ 52 + plus x / 2 ^ 1023
+unfolding S
+bits-from-two {x} p = bits-by-field 1023 x (p .number) (p .clear) (le-trans (lit≤ tt) (p .least)) (lt-of-le-of-lt (p .most) (lit< tt))
+
+-- from 1/2 to 2, with h for the number of 2^-53 in it
+record AroundOne (b h : ℕ) : Type 0 where
+  least : 2 ^ 52 ≤ h
+  most : h < 2 ^ 54
+  bits : ((h < 2 ^ 53) × (b ≡ 1021 * 2 ^ 52 + h)) ⊎ ((2 ^ 53 ≤ h) × (b ≡ 1022 * 2 ^ 52 + h / 2))
+
+around-one : {x : Float} → Positive (2 ^ 52) (2 ^ 54 - 1) x → AroundOne (toBits binary64 x) (plus x / S)
+unfolding S
+around-one {x} p = record {
+  least = le-div-iff-mul-le (pow-pos 1021) .1 (p .least);
+  most = div-lt-iff-lt-mul (pow-pos 1021) .1 (lt-of-le-of-lt (p .most) (lit< tt));
+  bits = go (ltb (plus x) (2 ^ 1074)) (ltb→lt (plus x) (2 ^ 1074)) (nltb→le (plus x) (2 ^ 1074));
+}
+  where
+    go : (u : Bool) → (T u → plus x < 2 ^ 1074) → (T (not u) → 2 ^ 1074 ≤ plus x)
+        → ((plus x / 2 ^ 1021 < 2 ^ 53) × (toBits binary64 x ≡ 1021 * 2 ^ 52 + plus x / 2 ^ 1021)) ⊎ ((2 ^ 53 ≤ plus x / 2 ^ 1021) × (toBits binary64 x ≡ 1022 * 2 ^ 52 + plus x / 2 ^ 1021 / 2))
+    go true l g = inl (div-lt-iff-lt-mul (pow-pos 1021) .1 (lt-of-lt-of-le (l tt) (lit≤ tt)), bits-by-field 1021 x (p .number) (p .clear) (le-trans (lit≤ tt) (p .least)) (l tt))
+    go false l g = inr (
+      le-div-iff-mul-le (pow-pos 1021) .1 (le-trans (lit≤ tt) (g tt)),
+      bits-by-field 1022 x (p .number) (p .clear) (g tt) (lt-of-le-of-lt (p .most) (lit< tt)) ∙ ap (λ (n : ℕ). 1022 * 2 ^ 52 + n) (sym (div-div-eq-div-mul (plus x) (2 ^ 1021) 2)),
+    )
+
+pub bits-around-one : {x : Float} → Positive (2 ^ 52) (2 ^ 54 - 1) x → (1022 * 2 ^ 52 ≤ toBits binary64 x) × (toBits binary64 x < 1024 * 2 ^ 52)
+bits-around-one {x} p = go (toBits binary64 x) (plus x / S) (around-one p .least) (around-one p .most) (around-one p .bits)
+  where
+    go : (b h : ℕ) → 2 ^ 52 ≤ h → h < 2 ^ 54 → ((h < 2 ^ 53) × (b ≡ 1021 * 2 ^ 52 + h)) ⊎ ((2 ^ 53 ≤ h) × (b ≡ 1022 * 2 ^ 52 + h / 2)) → (1022 * 2 ^ 52 ≤ b) × (b < 1024 * 2 ^ 52)
+    go b h l m (inl (g, e)) = (omega arith, omega arith)
+    go b h l m (inr (g, e)) = (omega arith, omega arith)
+
+-- the patterns of two such values are no further from each other than the values are, in 2^-53
+pub bits-apart : {K : ℕ} {x y : Float} → Positive (2 ^ 52) (2 ^ 54 - 1) x → Positive (2 ^ 52) (2 ^ 54 - 1) y → Apart S K x y → toBits binary64 x ≤ toBits binary64 y + K
+unfolding S
+bits-apart {K} {x} {y} p q a =
+    go (toBits binary64 x) (plus x / S) (toBits binary64 y) (plus y / S) K
+    (le-trans (shr-mono 1021 (over (plus x) (less x) (plus y) (less y) (K * S) (p .clear) (q .clear) (a .over))) (le-of-eq (add-mul-div-right (plus y) K S-pos))) (around-one p .bits) (around-one q .bits)
+  where
+    over : (p n q m d : ℕ) → n ≡ 0 → m ≡ 0 → p + m ≤ n + q + d → p ≤ q + d
+    over p n q m d e f h = omega arith
+
+    go : (b h c i k : ℕ) → h ≤ i + k → ((h < 2 ^ 53) × (b ≡ 1021 * 2 ^ 52 + h)) ⊎ ((2 ^ 53 ≤ h) × (b ≡ 1022 * 2 ^ 52 + h / 2)) → ((i < 2 ^ 53) × (c ≡ 1021 * 2 ^ 52 + i)) ⊎ ((2 ^ 53 ≤ i) × (c ≡ 1022 * 2 ^ 52 + i / 2)) → b ≤ c + k
+    go b h c i k d (inl (g, e)) (inl (l, f)) = omega arith
+    go b h c i k d (inl (g, e)) (inr (l, f)) = omega arith
+    go b h c i k d (inr (g, e)) (inl (l, f)) = omega arith
+    go b h c i k d (inr (g, e)) (inr (l, f)) = omega arith
 
 -- the pattern without its last digits, 2^52 being v × u: the place among the 64ths, and among the 32nds
 place-among : {x : Float} (u v : ℕ) → 0 < u → v * u ≡ 2 ^ 52 → Positive (2 ^ 54) (2 ^ 55 - 1) x → toBits binary64 x / u ≡ 1023 * v + plus x / (2 ^ 1023 * u)
@@ -283,3 +331,54 @@ gt-of-not-le x y p q e = go (leb (plus x + less y) (plus y + less x)) (leb→le 
     go : (b : Bool) → (T b → plus x + less y ≤ plus y + less x) → (T (not b) → plus y + less x < plus x + less y) → plus y + less x < plus x + less y
     go true h g = absurd (subst T e (le-of-units x y p q (h tt)))
     go false h g = g tt
+
+-- ---- the outcomes of comparisons, in units
+number-plain : (x : Float) → T (finite x) → T (not (isNan x))
+unfolding isNan
+number-plain nan h = absurd h
+number-plain (inf s) h = absurd h
+number-plain (fin s m e) h = tt
+
+lt-is : {x y : Float} → Number x → Number y → lt x y ≡ not (le y x)
+lt-is {x} {y} p q =
+    lt-by-key binary64 x y (p .held) (q .held) (number-plain x (p .plain)) (number-plain y (q .plain)) ∙ sym (not-leb (key binary64 (toBits binary64 x)) (key binary64 (toBits binary64 y)))
+    ∙ ap not (sym (le-by-key binary64 y x (q .held) (p .held) (number-plain y (q .plain)) (number-plain x (p .plain))))
+
+-- x is at most y, or not
+pub le-true : {x y : Float} → Number x → Number y → plus x + less y ≤ plus y + less x → le x y ≡ true
+le-true {x} {y} p q h = true-of (le x y) (le-of-units x y p q h)
+  where
+    true-of : (b : Bool) → T b → b ≡ true
+    true-of true t = refl
+
+pub le-false : {x y : Float} → Number x → Number y → plus y + less x < plus x + less y → le x y ≡ false
+le-false {x} {y} p q h = go (le x y) (le-units x y p q)
+  where
+    go : (v : Bool) → (T v → plus x + less y ≤ plus y + less x) → v ≡ false
+    go true g = absurd (not-le-of-lt h (g tt))
+    go false g = refl
+
+-- x is below y, or not
+pub lt-true : {x y : Float} → Number x → Number y → plus x + less y < plus y + less x → lt x y ≡ true
+lt-true p q h = lt-is p q ∙ ap not (le-false q p h)
+
+pub lt-false : {x y : Float} → Number x → Number y → plus y + less x ≤ plus x + less y → lt x y ≡ false
+lt-false p q h = lt-is p q ∙ ap not (le-true q p h)
+
+-- and back
+pub units-of-le : {x y : Float} → Number x → Number y → le x y ≡ true → plus x + less y ≤ plus y + less x
+units-of-le {x} {y} p q e = le-units x y p q (subst T (sym e) tt)
+
+pub units-of-lt : {x y : Float} → Number x → Number y → lt x y ≡ true → plus x + less y < plus y + less x
+units-of-lt {x} {y} p q e = gt-of-not-le y x q p (not-back (le y x) (sym (lt-is p q) ∙ e))
+  where
+    not-back : (b : Bool) → not b ≡ true → b ≡ false
+    not-back true h = sym h
+    not-back false h = refl
+
+pub units-of-not-lt : {x y : Float} → Number x → Number y → lt x y ≡ false → plus y + less x ≤ plus x + less y
+units-of-not-lt {x} {y} p q e = units-of-le q p (not-back (le y x) (sym (lt-is p q) ∙ e))
+  where
+    not-back : (b : Bool) → not b ≡ false → b ≡ true
+    not-back true h = refl
+    not-back false h = sym h

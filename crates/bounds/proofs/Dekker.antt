@@ -1,6 +1,6 @@
--- Dekker's product, from above, where nothing overflows: the lo of `fromExactMult` is at most 2^-51 of the product and four units of 2^-1074 (`dekker-near`). Each of its steps
--- is held against the exact sum of the products of the parts, with its sign; the four of them make the product of a and b but for 2^-76, so that what is left is the two roundings
--- of the largest products. That lo is the error exactly is not claimed here. Assumes nothing.
+-- Dekker's product, from above, where nothing overflows: the lo of `fromExactMult` is at most 2^-51 of the product and four units of 2^-1074 (`dekker-near`), and in full little more than 2^-52 of it and
+-- two and a half units (its `lo-near`). Each of its steps is held against the exact sum of the products of the parts, with its sign; the four of them make the product of a and b but for 2^-76, so that what
+-- is left is the two roundings of the largest products. That lo is the error exactly is not claimed here. Assumes nothing.
 use mathlib.Core.Path.{_≡_, refl, sym, ap, ap₂, _∙_, subst}
 use mathlib.Core.Logic.{_⊎_, inl, inr}
 use mathlib.Core.Bool.{Bool, true, false, not}
@@ -131,14 +131,14 @@ along-parts true x h = go (plus x) (less x) h
     go p n h = (omega arith, omega arith)
 
 -- z × w is p - n but for e / 2^53
-record Off (p n e w : ℕ) (z : Float) : Type 0 where
-  most : (plus z * w + n) * 2 ^ 53 ≤ (less z * w + p) * 2 ^ 53 + e
-  least : (less z * w + p) * 2 ^ 53 ≤ (plus z * w + n) * 2 ^ 53 + e
+pub record Off (p n e w : ℕ) (z : Float) : Type 0 where
+  pub most : (plus z * w + n) * 2 ^ 53 ≤ (less z * w + p) * 2 ^ 53 + e
+  pub least : (less z * w + p) * 2 ^ 53 ≤ (plus z * w + n) * 2 ^ 53 + e
 
-abbrev plusTimes : Float → Float → ℕ
+abbrev pub plusTimes : Float → Float → ℕ
 plusTimes x y = plus x * plus y + less x * less y
 
-abbrev lessTimes : Float → Float → ℕ
+abbrev pub lessTimes : Float → Float → ℕ
 lessTimes x y = plus x * less y + less x * plus y
 
 off-signs : (u v : Bool) (X Y Z w e : ℕ) → Z * w * 2 ^ 53 ≤ X * Y * 2 ^ 53 + e → X * Y * 2 ^ 53 ≤ Z * w * 2 ^ 53 + e
@@ -173,7 +173,7 @@ off-along u v x y z a b m =
     (off-signs u v (mag x) (mag y) (mag z) perOne e (le-trans (m .most) (le-of-eq (add-assoc (mag x * mag y * 2 ^ 53) (mag x * mag y) (perOne * 2 ^ 52)))) (le-trans (m .least) (le-of-eq (add-assoc (mag z * perOne * 2 ^ 53) (mag x * mag y) (perOne * 2 ^ 52))))) in
     record { most = o .0; least = o .1 }
 
-off-product : (x y z : Float) → Multiplied x y z → Off (plusTimes x y) (lessTimes x y) (mag x * mag y + perOne * 2 ^ 52) perOne z
+pub off-product : (x y z : Float) → Multiplied x y z → Off (plusTimes x y) (lessTimes x y) (mag x * mag y + perOne * 2 ^ 52) perOne z
 off-product x y z m = go (direction x) (direction y)
   where
     go : Along true x ⊎ Along false x → Along true y ⊎ Along false y → Off (plusTimes x y) (lessTimes x y) (mag x * mag y + perOne * 2 ^ 52) perOne z
@@ -430,8 +430,9 @@ four-turned' : (ph nh pl nl qh mh ql ml pa na pb nb : ℕ)
 four-turned' ph nh pl nl qh mh ql ml pa na pb nb = omega arith
 
 -- off p - n, which is small: the size
-final-size : (P N p n M w : ℕ) → (P + n) * 2 ^ 83 ≤ (N + p) * 2 ^ 83 + (2147484222 * M + (5 * 2 ^ 52 + 16) * (w * 2 ^ 30)) → p * 2 ^ 78 ≤ n * 2 ^ 78 + 3 * M → N ≡ 0 → P * 2 ^ 51 ≤ M + w * 2 ^ 53
-final-size P N p n M w h g z = cut P M w (over P N p n M w h (wider p n M g) z)
+final-size : (P N p n M w : ℕ) → (P + n) * 2 ^ 83 ≤ (N + p) * 2 ^ 83 + (2147484222 * M + (5 * 2 ^ 52 + 16) * (w * 2 ^ 30)) → p * 2 ^ 78 ≤ n * 2 ^ 78 + 3 * M → N ≡ 0
+    → P * 2 ^ 83 ≤ 2147484318 * M + (5 * 2 ^ 52 + 16) * (w * 2 ^ 30)
+final-size P N p n M w h g z = over P N p n M w h (wider p n M g) z
   where
     wider : (p n M : ℕ) → p * 2 ^ 78 ≤ n * 2 ^ 78 + 3 * M → p * 2 ^ 83 ≤ n * 2 ^ 83 + 96 * M
     wider p n M h = omega arith
@@ -440,26 +441,29 @@ final-size P N p n M w h g z = cut P M w (over P N p n M w h (wider p n M g) z)
         → P * 2 ^ 83 ≤ 2147484318 * M + (5 * 2 ^ 52 + 16) * (w * 2 ^ 30)
     over P N p n M w h g z = omega arith
 
+-- on whichever side
+of-sides : (q m w p n M : ℕ) → (q ≡ 0) ⊎ (m ≡ 0) → (q * w + n) * 2 ^ 83 ≤ (m * w + p) * 2 ^ 83 + (2147484222 * M + (5 * 2 ^ 52 + 16) * (w * 2 ^ 30))
+    → (m * w + p) * 2 ^ 83 ≤ (q * w + n) * 2 ^ 83 + (2147484222 * M + (5 * 2 ^ 52 + 16) * (w * 2 ^ 30)) → p * 2 ^ 78 ≤ n * 2 ^ 78 + 3 * M → n * 2 ^ 78 ≤ p * 2 ^ 78 + 3 * M
+    → (q + m) * w * 2 ^ 83 ≤ 2147484318 * M + (5 * 2 ^ 52 + 16) * (w * 2 ^ 30)
+of-sides q m w p n M (inl e) h g k l =
+    le-trans (le-of-eq (ap (λ (i : ℕ). (i + m) * w * 2 ^ 83) e ∙ ap (λ (i : ℕ). i * w * 2 ^ 83) (zero-add m))) (final-size (m * w) (q * w) n p M w g l (ap (λ (i : ℕ). i * w) e ∙ zero-mul w))
+of-sides q m w p n M (inr e) h g k l =
+    le-trans (le-of-eq (ap (λ (i : ℕ). (q + i) * w * 2 ^ 83) e ∙ ap (λ (i : ℕ). i * w * 2 ^ 83) (add-zero q))) (final-size (q * w) (m * w) p n M w h k (ap (λ (i : ℕ). i * w) e ∙ zero-mul w))
+
+-- the same in round numbers
+rounder : (P M w : ℕ) → P * 2 ^ 83 ≤ 2147484318 * M + (5 * 2 ^ 52 + 16) * (w * 2 ^ 30) → P * 2 ^ 51 ≤ M + w * 2 ^ 53
+rounder P M w h = le-of-mul-le-mul-right (le-trans (le-of-eq (same P)) (le-trans h (enough M w))) (lit< tt)
+  where
     enough : (M w : ℕ) → 2147484318 * M + (5 * 2 ^ 52 + 16) * (w * 2 ^ 30) ≤ (M + w * 2 ^ 53) * 2 ^ 32
     enough M w = omega arith
 
     same : (P : ℕ) → P * 2 ^ 51 * 2 ^ 32 ≡ P * 2 ^ 83
     same P = omega arith
 
-    cut : (P M w : ℕ) → P * 2 ^ 83 ≤ 2147484318 * M + (5 * 2 ^ 52 + 16) * (w * 2 ^ 30) → P * 2 ^ 51 ≤ M + w * 2 ^ 53
-    cut P M w h = le-of-mul-le-mul-right (le-trans (le-of-eq (same P)) (le-trans h (enough M w))) (lit< tt)
-
--- on whichever side
-of-sides : (q m w p n M : ℕ) → (q ≡ 0) ⊎ (m ≡ 0) → (q * w + n) * 2 ^ 83 ≤ (m * w + p) * 2 ^ 83 + (2147484222 * M + (5 * 2 ^ 52 + 16) * (w * 2 ^ 30))
-    → (m * w + p) * 2 ^ 83 ≤ (q * w + n) * 2 ^ 83 + (2147484222 * M + (5 * 2 ^ 52 + 16) * (w * 2 ^ 30)) → p * 2 ^ 78 ≤ n * 2 ^ 78 + 3 * M → n * 2 ^ 78 ≤ p * 2 ^ 78 + 3 * M → (q + m) * w * 2 ^ 51 ≤ M + w * 2 ^ 53
-of-sides q m w p n M (inl e) h g k l =
-    le-trans (le-of-eq (ap (λ (i : ℕ). (i + m) * w * 2 ^ 51) e ∙ ap (λ (i : ℕ). i * w * 2 ^ 51) (zero-add m))) (final-size (m * w) (q * w) n p M w g l (ap (λ (i : ℕ). i * w) e ∙ zero-mul w))
-of-sides q m w p n M (inr e) h g k l =
-    le-trans (le-of-eq (ap (λ (i : ℕ). (q + i) * w * 2 ^ 51) e ∙ ap (λ (i : ℕ). i * w * 2 ^ 51) (add-zero q))) (final-size (q * w) (m * w) p n M w h k (ap (λ (i : ℕ). i * w) e ∙ zero-mul w))
-
 pub record Dekker (a b : Float) : Type 0 where
   pub hi : Multiplied a b (fromExactMult a b .hi)
   pub lo-number : Number (fromExactMult a b .lo)
+  pub lo-near : mag (fromExactMult a b .lo) * perOne * 2 ^ 83 ≤ 2147484318 * (mag a * mag b) + (5 * 2 ^ 52 + 16) * (perOne * 2 ^ 30)
   pub lo-small : mag (fromExactMult a b .lo) * perOne * 2 ^ 51 ≤ mag a * mag b + perOne * 2 ^ 53
 
 module _ {a b : Float} (p : Number a) (q : Number b) (A : (mag a + 1) * 2 ^ 28 ≤ limit) (B : (mag b + 1) * 2 ^ 28 ≤ limit) (moderate : Moderate (mag a * mag b)) where
@@ -497,15 +501,12 @@ module _ {a b : Float} (p : Number a) (q : Number b) (A : (mag a + 1) * 2 ^ 28 �
       let other = sums-off (less ah + less al) (plus ah + plus al) (plus bh + plus bl) (less bh + less bl) (less a) (plus a) (plus b) (less b) (turn (less ah + less al + plus a) (plus ah + plus al + less a) (plus a) (less a) (ha .sum-least))
       (turn (plus ah + plus al + less a) (less ah + less al + plus a) (plus a) (less a) (ha .sum-most)) (hb .sum-most) (hb .sum-least)
       (le-trans (le-of-eq (halves-of (plus bh) (plus bl) (less bh) (less bl))) beside) in
-      record {
-        hi = r;
-        lo-number = lo .number;
-        lo-small = of-sides (plus e) (less e) perOne _ _ M (one-side e) (lo .most) (lo .least)
-            (le-trans (le-of-eq (ap (λ (k : ℕ). k * 2 ^ 78) (four-products (plus ah) (less ah) (plus al) (less al) (plus bh) (less bh) (plus bl) (less bl) (lessTimes a b))))
-            (le-trans parts (le-of-eq (ap (λ (k : ℕ). k * 2 ^ 78 + 3 * M) (sym (four-turned (plus ah) (less ah) (plus al) (less al) (plus bh) (less bh) (plus bl) (less bl) (plusTimes a b)))))))
-            (le-trans (le-of-eq (ap (λ (k : ℕ). k * 2 ^ 78) (four-turned' (plus ah) (less ah) (plus al) (less al) (plus bh) (less bh) (plus bl) (less bl) (plus a) (less a) (plus b) (less b))))
-            (le-trans other (le-of-eq (ap₂ (λ (k m : ℕ). k * 2 ^ 78 + 3 * m) (sym (four-products' (plus ah) (less ah) (plus al) (less al) (plus bh) (less bh) (plus bl) (less bl) (plus a) (less a) (plus b) (less b))) (ap (λ (k : ℕ). k * mag b) (add-comm (less a) (plus a)))))));
-      }
+      let near : mag e * perOne * 2 ^ 83 ≤ 2147484318 * M + (5 * 2 ^ 52 + 16) * (perOne * 2 ^ 30) = of-sides (plus e) (less e) perOne _ _ M (one-side e) (lo .most) (lo .least)
+      (le-trans (le-of-eq (ap (λ (k : ℕ). k * 2 ^ 78) (four-products (plus ah) (less ah) (plus al) (less al) (plus bh) (less bh) (plus bl) (less bl) (lessTimes a b))))
+      (le-trans parts (le-of-eq (ap (λ (k : ℕ). k * 2 ^ 78 + 3 * M) (sym (four-turned (plus ah) (less ah) (plus al) (less al) (plus bh) (less bh) (plus bl) (less bl) (plusTimes a b)))))))
+      (le-trans (le-of-eq (ap (λ (k : ℕ). k * 2 ^ 78) (four-turned' (plus ah) (less ah) (plus al) (less al) (plus bh) (less bh) (plus bl) (less bl) (plus a) (less a) (plus b) (less b))))
+      (le-trans other (le-of-eq (ap₂ (λ (k m : ℕ). k * 2 ^ 78 + 3 * m) (sym (four-products' (plus ah) (less ah) (plus al) (less al) (plus bh) (less bh) (plus bl) (less bl) (plus a) (less a) (plus b) (less b))) (ap (λ (k : ℕ). k * mag b) (add-comm (less a) (plus a))))))) in
+      record { hi = r; lo-number = lo .number; lo-near = near; lo-small = rounder (mag e * perOne) M perOne near }
     where
       thrice : (N M : ℕ) → N * 2 ^ 30 ≤ M * 2 ^ 30 + 65 * M → N + M ≤ 3 * M
       thrice N M n = omega arith

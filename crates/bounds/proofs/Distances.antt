@@ -1,20 +1,20 @@
 -- How far two values can be from each other, on a scale: a sum is a rounding from the exact one (`sum-off`), and as far from one of its terms as the other term
--- is large, and a rounding (`add-apart`); `ddFmla` is as far from c as the product is large, and its roundings (`fmla-apart`). From a distance to a known value a size follows, from
--- below and from above (`not-less`, `not-below`, `not-more`). Assumes nothing.
-use mathlib.Core.Path.{_≡_, subst}
+-- is large, and a rounding (`add-apart`), as the two terms of a difference are by the difference (`sub-apart`); `ddFmla` is as far from c as the product is large, and its roundings (`fmla-apart`). From a distance to a known value a size follows, from
+-- below and from above (`not-less`, `not-below`, `not-more`, `bound-near`). Assumes nothing.
+use mathlib.Core.Path.{_≡_, sym, subst}
 use mathlib.Core.Logic.{_⊎_, inl, inr}
 use Prim.Native.Nat.{ℕ, _+_, _*_, _/_, _^_, _≤_, _<_}
 use native.Mathlib.Nat.{le-trans, le-of-eq, mul-le-mul-right, mul-right-comm, add-comm, add-mul, add-le-add, le-refl}
 use native.Mathlib.Omega.{arith}
 use lib.Dec.{T, leb, leb→le}
-use lib.Ieee.{Float, binary64}
-use Rattle.floats.specs.Operations.{_⊕_}
+use lib.Ieee.{Float, binary64, neg, sub}
+use Rattle.floats.specs.Operations.{_⊕_, _⊖_}
 use Rattle.floats.proofs.Laws.Sums.{add-turned}
 use Rattle.double_double.specs.DoubleDouble.{fromFullExactAdd, fullAddF64, ddFmla}
-use Rattle.bounds.proofs.Values.{plus, less, mag, one-side}
+use Rattle.bounds.proofs.Values.{plus, less, mag, one-side, Number, neg-plus, neg-less}
 use Rattle.bounds.proofs.Operation.{limit, Small, add-near}
 use Rattle.bounds.proofs.Sums.{past, rounded-part, sum-small}
-use Rattle.bounds.proofs.Scales.{Bound, both-sizes, one-part, small-limit, ok, sumK, productK, ProductScale, add-bound, dekker-bounds, full-bounds, fmlaLoK, fmlaOk, fmla-parts}
+use Rattle.bounds.proofs.Scales.{Bound, neg-bound, both-sizes, one-part, small-limit, ok, sumK, productK, ProductScale, add-bound, dekker-bounds, full-bounds, fmlaLoK, fmlaOk, fmla-parts}
 
 pub record Apart (μ K : ℕ) (x y : Float) : Type 0 where
   pub over : plus x + less y ≤ less x + plus y + K * μ
@@ -57,6 +57,25 @@ sum-off {μ} {K} {L} {x} {y} p q t =
       upper = past (plus z + (less x + less y)) (less z + (plus x + plus y)) d E (c .most) (parts (K + L) μ);
       lower = past (less z + (plus x + plus y)) (plus z + (less x + less y)) d E (c .least) (parts (K + L) μ);
     }
+
+-- x and y are as far from each other as x - y is large, and a rounding
+pub sub-apart : {μ K L C : ℕ} {x y : Float} → Bound μ K x → Bound μ L y → Bound μ C (x ⊖ y) → T (ok (K + L)) → Apart μ (C + ((K + L) / 2 ^ 53 + 1)) x y
+unfolding sub
+sub-apart {μ} {K} {L} {C} {x} {y} p q r t =
+    let E = ((K + L) / 2 ^ 53 + 1) * μ in
+    let z = x ⊖ y in
+    let o = sum-off p (neg-bound q) t in
+    let e = add-mul C ((K + L) / 2 ^ 53 + 1) μ in
+    record {
+      over = above (plus x) (less x) (plus y) (less y) (plus (neg y)) (less (neg y)) (plus z) (less z) (C * μ) E _ (neg-plus y) (neg-less y) e (r .size) (o .lower);
+      under = below (plus x) (less x) (plus y) (less y) (plus (neg y)) (less (neg y)) (plus z) (less z) (C * μ) E _ (neg-plus y) (neg-less y) e (r .size) (o .upper);
+    }
+  where
+    above : (p n q m q' m' r l C E k : ℕ) → q' ≡ m → m' ≡ q → k ≡ C + E → r + l ≤ C → l + (p + q') ≤ r + (n + m') + E → p + m ≤ n + q + k
+    above p n q m q' m' r l C E k f g e s h = omega arith
+
+    below : (p n q m q' m' r l C E k : ℕ) → q' ≡ m → m' ≡ q → k ≡ C + E → r + l ≤ C → r + (n + m') ≤ l + (p + q') + E → q + n ≤ m + p + k
+    below p n q m q' m' r l C E k f g e s h = omega arith
 
 -- so it is off x by y, and a rounding
 pub add-apart : {μ K L : ℕ} {x y : Float} → Bound μ K x → Bound μ L y → T (ok (K + L)) → Apart μ (apartK K L) (x ⊕ y) x
@@ -107,6 +126,10 @@ pub not-more : {μ K : ℕ} {x y : Float} → Apart μ K x y → mag x ≤ mag y
 not-more {μ} {K} {x} {y} a =
     let turned : Apart μ K y x = record { over = a .under; under = a .over } in
     not-less turned
+
+-- so it is bounded where y is
+pub bound-near : {μ A K : ℕ} {x y : Float} → Number x → Apart μ A x y → Bound μ K y → Bound μ (K + A) x
+bound-near {μ} {A} {K} n a b = record { scale = b .scale; number = n; size = le-trans (not-more a) (le-trans (add-le-add (b .size) (le-refl (A * μ))) (le-of-eq (sym (add-mul K A μ)))) }
 
 -- and above 0 where y is further above it than that
 pub not-below : {μ K : ℕ} {x y : Float} → Apart μ K x y → less y ≡ 0 → K * μ < plus y → less x ≡ 0

@@ -1,30 +1,26 @@
--- Operations that lose nothing. A difference of whole numbers of 2^-53, of fewer than 2^53 in size, is exact
--- (`counted`): so is u - 1 for a u from 1/2 to 3/2, as a plain difference (`minus-one`) and by `ddFmla` (`fmla-minus-one`), whose product with 1 is exact
--- (`one-times`, `dekker-one`) and whose full add of an exact sum leaves no error (`full-exact`). Assumes nothing.
+-- Operations that lose nothing. u - 1 is exact for a u from 1/2 to 3/2, as a plain difference (`minus-one`, `times-minus-one`) and by `ddFmla` (`fmla-minus-one`), whose product with 1 is exact
+-- (`one-times`, `dekker-one`) and whose full add of an exact sum leaves no error (`full-exact`), as the fast one does (`fast-exact`). Assumes nothing.
 use mathlib.Core.Path.{_≡_, refl, sym, ap, ap₂, _∙_, subst}
 use mathlib.Core.Logic.{_⊎_, inl, inr}
 use mathlib.Core.Bool.{Bool, true, false, not}
 use Prim.Native.Nat.{ℕ, zero, suc, _+_, _-_, _*_, _^_, _≤_, _<_}
-use native.Mathlib.Nat.{le-refl, le-trans, le-of-eq, lt-of-lt-of-le, lt-irrefl, le-of-mul-le-mul-right, mul-comm, mul-assoc, mul-le-mul-right, mul-pos, add-le-add, add-comm, add-mul, zero-mul, add-zero, zero-add, not-le-of-lt, zero-lt-suc}
+use native.Mathlib.Nat.{le-refl, le-trans, le-of-eq, lt-of-lt-of-le, lt-irrefl, le-of-mul-le-mul-right, mul-comm, mul-assoc, mul-le-mul-right, mul-pos, add-le-add, add-comm, add-assoc, zero-mul, add-zero, zero-lt-suc}
 use native.Mathlib.Omega.{arith}
-use lib.Dec.{T, leb, leb→le, nleb→lt, lit≤, lit<}
+use lib.Dec.{lit≤, lit<}
 use lib.IntN.{pos}
-use lib.Pow.{pow-add, pow-pos, pow-mono, shl-lt}
-use lib.Ieee.{Float, nan, inf, fin, binary64, round, neg, add, sub, mul, fits}
-use lib.Ieee.Exact.{round-exact}
-use lib.Ieee.Fits.{round-fits}
+use lib.Ieee.{Float, fin, binary64, round, neg, add, sub, mul, fits}
 use lib.Ieee.Scale.{round-same}
 use Rattle.floats.specs.Operations.{_⊕_, _⊖_, _⊗_}
 use Rattle.floats.proofs.Laws.Rounding.{neg-round}
-use Rattle.floats.proofs.Laws.Units.{exponent, fits-digits}
 use Rattle.floats.proofs.Laws.Sums.{above, under, Signed, Rounded}
 use Rattle.double_double.specs.declared.DoubleDouble.{DoubleDouble}
-use Rattle.double_double.specs.DoubleDouble.{split, fromExactMult, fromFullExactAdd, fullAddF64, ddFmla}
-use Rattle.bounds.proofs.Values.{perOne, perOne-pos, plus, less, mag, Number, neg-plus, neg-less, neg-number, Units, by-value, sum-in-units, Along, Product, product-in-units}
+use Rattle.double_double.specs.DoubleDouble.{split, fromExactMult, fromExactAdd, fromFullExactAdd, fullAddF64, ddFmla}
+use Rattle.bounds.proofs.Values.{perOne, perOne-pos, plus, less, mag, Number, neg-plus, neg-less, neg-number, Units, sum-in-units, Along, Product, product-in-units}
 use Rattle.bounds.proofs.Operation.{limit, round-held, Same, add-exact, sub-exact, nothing, mul-near, units-mag}
 use Rattle.bounds.proofs.Split.{split-near}
 use Rattle.bounds.proofs.Dekker.{direction}
 use Rattle.bounds.proofs.Scales.{S, S-pos}
+use Rattle.bounds.proofs.Grids.{grid53, Count, rounded-count, count-as, count-same, count-size, round-few, count-sum, on-grid-clear}
 use Rattle.bounds.proofs.Compared.{Positive, positive-bound}
 
 -- ---- 1, -1 and 0
@@ -54,99 +50,28 @@ minus-one-less : less minusOne ≡ 2 ^ 53 * S
 unfolding S
 minus-one-less = refl
 
--- ---- a difference of whole numbers of 2^-53
--- z is p - n, exactly, and a whole number of 2^-53
-record Counted (p n : ℕ) (z : Float) : Type 0 where
-  number : Number z
-  is : plus z + n ≡ less z + p
-  parts : ℕ
-  grid : mag z ≡ parts * S
-
--- q × 2^-53 with fewer than 53 digits
-round-counted : (s : Bool) (k q : ℕ) → q < 2 ^ 53 → k ≡ q * S → Units s k (round binary64 s k perOne)
-unfolding perOne S
-round-counted s k q h e =
-    by-value (round binary64 s k (2 ^ 1074)) s k (round-fits binary64 s k (2 ^ 1074))
-    (round-exact binary64 s k (2 ^ 1074) q 1021 (pow-pos 1074) h (lt-of-lt-of-le (shl-lt 53 1021 h) (lit≤ tt)) (ap (λ (z : ℕ). z * 2 ^ 1074) e))
-
-signed-units : (s : Bool) (k p n : ℕ) (z : Float) → Signed s k p n → Units s k z → plus z + n ≡ less z + p
-signed-units false k p n z e u = ap (λ (a : ℕ). a + n) (u .plus-is) ∙ e ∙ sym (ap (λ (b : ℕ). b + p) (u .less-is) ∙ zero-add p)
-signed-units true k p n z e u = ap (λ (a : ℕ). a + n) (u .plus-is) ∙ zero-add n ∙ sym e ∙ ap (λ (b : ℕ). b + p) (sym (u .less-is))
-
--- k is fewer than 2^53 of 2^-53
-record Few (k : ℕ) : Type 0 where
-  parts : ℕ
-  small : parts < 2 ^ 53
-  is : k ≡ parts * S
-
-few-of : (k P N : ℕ) → k + N * S ≡ P * S → P < N + 2 ^ 53 → Few k
-few-of k P N e h =
-    let order : N ≤ P = le-of-mul-le-mul-right (over k (N * S) (P * S) e) S-pos in
-    record { parts = P - N; small = near P N h; is = cancel k (N * S) ((P - N) * S) (P * S) e (sym (add-mul (P - N) N S) ∙ ap (λ (z : ℕ). z * S) (back P N order)) }
-  where
-    over : (a b d : ℕ) → a + b ≡ d → b ≤ d
-    over a b d h = omega arith
-
-    near : (P N : ℕ) → P < N + 2 ^ 53 → P - N < 2 ^ 53
-    near P N h = omega arith
-
-    back : (q r : ℕ) → r ≤ q → q - r + r ≡ q
-    back q r h = omega arith
-
-    cancel : (a b d f : ℕ) → a + b ≡ f → d + b ≡ f → a ≡ d
-    cancel a b d f g h = omega arith
-
-few-signed : (s : Bool) (k P N : ℕ) → Signed s k (P * S) (N * S) → P < N + 2 ^ 53 → N < P + 2 ^ 53 → Few k
-few-signed false k P N e h g = few-of k P N e h
-few-signed true k P N e h g = few-of k N P e g
-
-counted : {z : Float} (P N : ℕ) → Rounded binary64 (P * S) (N * S) perOne z → P < N + 2 ^ 53 → N < P + 2 ^ 53 → Counted (P * S) (N * S) z
-counted {z} P N R h g =
-    let w = few-signed (R .sign) (R .digits) P N (R .exact) h g in
-    let u : Units (R .sign) (R .digits) z = subst (Units (R .sign) (R .digits)) (sym (R .is)) (round-counted (R .sign) (R .digits) (w .parts) (w .small) (w .is)) in
-    record { number = u .number; is = signed-units (R .sign) (R .digits) (P * S) (N * S) z (R .exact) u; parts = w .parts; grid = units-mag u ∙ w .is }
+pub minus-one-count : Count S 0 (2 ^ 53) minusOne
+unfolding S
+minus-one-count = record { number = minus-one-number; is = refl }
 
 -- ---- from 1/2 to 3/2 an f64 is a whole number of 2^-53
-record Around (u : Float) : Type 0 where
-  parts : ℕ
-  is : plus u ≡ parts * S
-  least : 2 ^ 52 ≤ parts
-  most : parts ≤ 3 * 2 ^ 52
+pub record Around (u : Float) : Type 0 where
+  pub parts : ℕ
+  pub is : plus u ≡ parts * S
+  pub count : Count S parts 0 u
+  pub least : 2 ^ 52 ≤ parts
+  pub most : parts ≤ 3 * 2 ^ 52
 
--- m × 2^k with fewer than 53 digits in m
-deep : (m k : ℕ) → m < 2 ^ 53 → 2 ^ 52 * S ≤ m * 2 ^ k → 1021 ≤ k
-unfolding S
-deep m k h l = go (leb 1021 k) (leb→le 1021 k) (nleb→lt 1021 k)
-  where
-    up-to : (k : ℕ) → k < 1021 → 53 + k ≤ 1073
-    up-to k h = omega arith
-
-    go : (b : Bool) → (T b → 1021 ≤ k) → (T (not b) → k < 1021) → 1021 ≤ k
-    go true y n = y tt
-    go false y n = absurd (not-le-of-lt (lt-of-lt-of-le (shl-lt 53 k h) (le-trans (pow-mono (up-to k (n tt))) (lit≤ tt))) l)
-
-multiple : (m k : ℕ) → 1021 ≤ k → m * 2 ^ k ≡ m * 2 ^ (k - 1021) * S
-unfolding S
-multiple m k h = ap (λ (i : ℕ). m * 2 ^ i) (back k h) ∙ ap (λ (i : ℕ). m * i) (pow-add 2 (k - 1021) 1021) ∙ sym (mul-assoc m (2 ^ (k - 1021)) (2 ^ 1021))
-  where
-    back : (k : ℕ) → 1021 ≤ k → k ≡ k - 1021 + 1021
-    back k h = omega arith
-
-around : {u : Float} → Positive (2 ^ 52) (3 * 2 ^ 52) u → Around u
-around {u} p = go u (p .number) (p .least) (p .most)
-  where
-    go : (u : Float) → Number u → 2 ^ 52 * S ≤ plus u → plus u ≤ 3 * 2 ^ 52 * S → Around u
-    go nan n l m = absurd (n .plain)
-    go (inf s) n l m = absurd (n .plain)
-    go (fin true k e) n l m = absurd (not-le-of-lt (mul-pos (lit< tt) S-pos) l)
-    go (fin false k e) n l m =
-        let is = multiple k (exponent 1074 e) (deep k (exponent 1074 e) (fits-digits binary64 false k e (n .held)) l) in
-        record {
-          parts = k * 2 ^ (exponent 1074 e - 1021);
-          is = is;
-          least = le-of-mul-le-mul-right (le-trans l (le-of-eq is)) S-pos;
-          most = le-of-mul-le-mul-right (le-trans (le-of-eq (sym is)) m) S-pos;
-        }
+pub around : {u : Float} → Positive (2 ^ 52) (3 * 2 ^ 52) u → Around u
+around {u} p =
+    let c = on-grid-clear grid53 (p .number) (p .clear) (p .least) in
+    record {
+      parts = c .parts;
+      is = c .is;
+      count = c .count;
+      least = le-of-mul-le-mul-right (le-trans (p .least) (le-of-eq (c .is))) S-pos;
+      most = le-of-mul-le-mul-right (le-trans (le-of-eq (sym (c .is))) (p .most)) S-pos;
+    }
 
 -- z is u - 1, exactly, and a whole number of 2^-53
 pub record Off (u z : Float) : Type 0 where
@@ -159,17 +84,15 @@ pub record Off (u z : Float) : Type 0 where
 off : {u : Float} (r : Float) → Positive (2 ^ 52) (3 * 2 ^ 52) u → Same r u → Off u (r ⊕ minusOne)
 off {u} r p same =
     let a = around p in
-    let above-it : plus r + plus minusOne ≡ a .parts * S = ap (λ (k : ℕ). k + plus minusOne) (same .plus-same ∙ a .is) ∙ add-zero (a .parts * S) in
-    let below-it : less r + less minusOne ≡ 2 ^ 53 * S = ap₂ _+_ (same .less-same ∙ p .clear) minus-one-less ∙ zero-add (2 ^ 53 * S) in
-    let R : Rounded binary64 (a .parts * S) (2 ^ 53 * S) perOne (r ⊕ minusOne) =
-    subst (λ (k : ℕ). Rounded binary64 k (2 ^ 53 * S) perOne (r ⊕ minusOne)) above-it
-    (subst (λ (k : ℕ). Rounded binary64 (plus r + plus minusOne) k perOne (r ⊕ minusOne)) below-it (sum-in-units r minusOne (same .number) minus-one-number)) in
     let w = range (a .parts) (a .least) (a .most) in
-    let c = counted (a .parts) (2 ^ 53) R (w .0) (w .1) in
-    record { number = c .number; is = c .is ∙ ap (λ (k : ℕ). less (r ⊕ minusOne) + k) (sym (a .is)); parts = c .parts; grid = c .grid }
+    let c = count-as (a .parts) (2 ^ 53) (count-sum grid53 (count-same same (a .count)) minus-one-count (w .0) (w .1)) (turned (a .parts)) in
+    record { number = c .number; is = c .is ∙ ap (λ (k : ℕ). less (r ⊕ minusOne) + k) (sym (a .is)); parts = a .parts - 2 ^ 53 + (2 ^ 53 - a .parts); grid = count-size grid53 c }
   where
-    range : (U : ℕ) → 2 ^ 52 ≤ U → U ≤ 3 * 2 ^ 52 → (U < 2 ^ 53 + 2 ^ 53) × (2 ^ 53 < U + 2 ^ 53)
+    range : (U : ℕ) → 2 ^ 52 ≤ U → U ≤ 3 * 2 ^ 52 → (U + 0 < 0 + 2 ^ 53 + 2 ^ 53) × (0 + 2 ^ 53 < U + 0 + 2 ^ 53)
     range U l m = (omega arith, omega arith)
+
+    turned : (U : ℕ) → U + 0 + 2 ^ 53 ≡ 0 + 2 ^ 53 + U
+    turned U = omega arith
 
 itself : {u : Float} → Number u → Same u u
 itself n = record { number = n; plus-same = refl; less-same = refl }
@@ -221,6 +144,10 @@ one-times x n = go (direction x)
     go (inl a) = same (parts true a (P .toward false true refl a))
     go (inr a) = same (parts false a (P .toward false false refl a))
 
+-- so 1 × u less 1 is exact
+pub times-minus-one : (u : Float) → Positive (2 ^ 52) (3 * 2 ^ 52) u → Off u (one ⊗ u ⊕ minusOne)
+times-minus-one u p = off (one ⊗ u) p (one-times u (p .number))
+
 -- ---- 0 × x is 0, and 0 + 0
 no-size : (p n : ℕ) → p + n ≡ 0 → (p ≡ 0) × (n ≡ 0)
 no-size p n h = (omega arith, omega arith)
@@ -255,8 +182,8 @@ both-none : (s t : Bool) (k l : ℕ) → k ≡ 0 → l ≡ 0 → Opposite (round
 both-none s t k l e d =
     let z = round binary64 s k perOne in
     let w = round binary64 t l perOne in
-    let u = round-counted t l 0 (lit< tt) (d ∙ sym (zero-mul S)) in
-    let i = no-size (plus z) (less z) (units-mag (round-counted s k 0 (lit< tt) (e ∙ sym (zero-mul S))) ∙ e) in
+    let u = round-few grid53 t l 0 (lit< tt) (d ∙ sym (zero-mul S)) in
+    let i = no-size (plus z) (less z) (units-mag (round-few grid53 s k 0 (lit< tt) (e ∙ sym (zero-mul S))) ∙ e) in
     let j = no-size (plus w) (less w) (units-mag u ∙ d) in
     record { number = u .number; plus-is = j .0 ∙ sym (i .1); less-is = j .1 ∙ sym (i .0) }
 
@@ -324,6 +251,23 @@ dekker-one u p l =
 -- ---- the full add of an exact sum has no error
 level-difference : {x y : Float} → Number x → Same y x → Same (x ⊖ y) nought
 level-difference {x} {y} p same = sub-exact p (same .number) nought-number (ap (λ (i : ℕ). i + 0) (ap (λ (i : ℕ). plus x + i) (same .less-same) ∙ add-comm (plus x) (less x) ∙ ap (λ (i : ℕ). less x + i) (sym (same .plus-same))))
+
+-- a sum that is exact, as one of fewer than 2^53 of a power of two is
+pub record ExactSum (x y : Float) : Type 0 where
+  pub number : Number (x ⊕ y)
+  pub is : plus (x ⊕ y) + less x + less y ≡ less (x ⊕ y) + plus x + plus y
+
+pub exact-sum : {x y : Float} (j P N : ℕ) → j ≤ 1900 → Number x → Number y → plus x + plus y ≡ P * 2 ^ j → less x + less y ≡ N * 2 ^ j → P < N + 2 ^ 53 → N < P + 2 ^ 53 → ExactSum x y
+exact-sum {x} {y} j P N l p q e d h g =
+    let c = rounded-count (record { digits = j; is = refl; low = l }) (sum-in-units x y p q) (both (plus x + plus y) (less x + less y) (P * 2 ^ j) (N * 2 ^ j) e d) h g in
+    record { number = c .number; is = add-assoc (plus (x ⊕ y)) (less x) (less y) ∙ ap (λ (k : ℕ). plus (x ⊕ y) + k) d ∙ c .is ∙ ap (λ (k : ℕ). less (x ⊕ y) + k) (sym e) ∙ sym (add-assoc (less (x ⊕ y)) (plus x) (plus y)) }
+  where
+    both : (a b c d : ℕ) → a ≡ c → b ≡ d → a + d ≡ b + c
+    both a b c d e f = omega arith
+
+pub fast-exact : {a b : Float} → Number a → Number b → ExactSum a b → Same (fromExactAdd a b .lo) nought
+unfolding fromExactAdd
+fast-exact p q s = level-difference q (sub-exact (s .number) p q (s .is))
 
 pub full-exact : {a b : Float} → Number a → Number b → Number (a ⊕ b) → plus (a ⊕ b) + less a + less b ≡ less (a ⊕ b) + plus a + plus b → Same (fromFullExactAdd a b .lo) nought
 unfolding fromFullExactAdd

@@ -6,5 +6,9 @@ pub mod Split
 pub mod Dekker
 pub mod Scales
 pub mod Distances
+pub mod Grids
 pub mod Compared
 pub mod Exactly
+pub mod OwnScale
+pub mod Apart
+pub mod Nearest

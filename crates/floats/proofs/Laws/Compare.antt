@@ -53,7 +53,7 @@ order a b = go (ltb a b) refl (ltb b a) refl
     go false e true d = more (ltb-true b a d)
     go false e false d = same (omega (arith, ltb-false a b e, ltb-false b a d))
 
-not-leb : (a b : ℕ) → not (leb b a) ≡ ltb a b
+pub not-leb : (a b : ℕ) → not (leb b a) ≡ ltb a b
 not-leb a b = go (leb b a) refl
   where
     go : (p : Bool) → leb b a ≡ p → not p ≡ ltb a b
@@ -243,7 +243,7 @@ level-other zero zero = refl
 level-other zero (suc b) = simp (ne-eqb 0 (suc b) (omega arith), lt-ltb 0 (zero + suc b) (omega arith))
 level-other (suc a) b = simp (ne-eqb (suc a) 0 (omega arith), lt-ltb 0 (suc a + b) (omega arith)) (and-false (eqb (suc a) b))
 
-eq-by-lt : (x y : Float) → T (not (isNan x)) → T (not (isNan y)) → eq x y ≡ (not (lt x y) && not (lt y x))
+pub eq-by-lt : (x y : Float) → T (not (isNan x)) → T (not (isNan y)) → eq x y ≡ (not (lt x y) && not (lt y x))
 unfolding eq lt isNan
 eq-by-lt nan y p q = absurd p
 eq-by-lt (inf s) nan p q = absurd q

@@ -4,7 +4,7 @@ use mathlib.Core.Path.{_≡_, refl, sym, ap, _∙_, subst}
 use mathlib.Core.Logic.{_⊎_, inl, inr}
 use mathlib.Core.Bool.{Bool, true, false, not, cond}
 use Prim.Native.Nat.{ℕ, _+_, _*_, _%_, _^_, _≤_, _<_}
-use native.Mathlib.Nat.{zero-add, le-of-eq, le-of-lt, lt-of-le-of-lt, not-le-of-lt, mod-eq-of-lt, add-mod-left}
+use native.Mathlib.Nat.{zero-add, le-trans, le-of-eq, le-of-lt, lt-of-le-of-lt, not-le-of-lt, mod-eq-of-lt, add-mod-left}
 use native.Mathlib.Omega.{arith}
 use lib.Dec.{T, lit<}
 use lib.IntN.{ℤ}
@@ -132,3 +132,12 @@ set-sign f (inf true) t n h = refl
 set-sign f (inf false) t n h = absurd (not-le-of-lt (inf-under-top f) (subst (λ (x : ℕ). top f ≤ x) (bits-of-inf f false ∙ zero-add (ones f * hid f)) h))
 set-sign f (fin true m e) t n h = refl
 set-sign f (fin false m e) t n h = absurd (not-le-of-lt (bits-under-top f m e t) h)
+
+-- so a pattern with the sign set, a NaN's apart, stands for the negated value of the pattern without it
+pub negated : (f : Format) (n : ℕ) → n < 2 * top f → n % top f ≤ ones f * hid f → top f ≤ n → neg (ofBits f (n % top f)) ≡ ofBits f n
+negated f n b h s =
+    let x = ofBits f n in
+    let t = ofBits-fits f n in
+    let number : T (not (isNan x)) = subst (λ (c : Bool). T (not c)) (nanBits-is f n) (number-of-below f n h) in
+    let e : toBits f x ≡ n = toBits-ofBits f n b number in
+    ap (λ (k : ℕ). neg (ofBits f (k % top f))) (sym e) ∙ ap neg (magnitude-is f x t number) ∙ set-sign f x t number (le-trans s (le-of-eq (sym e)))

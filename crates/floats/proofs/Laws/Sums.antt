@@ -1,22 +1,24 @@
 -- The sum of two finite values is the exact sum, rounded once, whatever the signs (`add-rounded`). So it is a number (`add-number`), addition is commutative (`add-turned`) and keeps
--- the order (`sums-mono`, `add-mono`), and what is left of an f64 over its nearest whole value is at most a half (`whole-distance`). Assumes nothing.
+-- the order (`sums-mono`, `add-mono`), that of patterns too (`sum-patterns-mono`), and what is left of an f64 over its nearest whole value is at most a half (`whole-distance`).
+-- Assumes nothing.
 use mathlib.Core.Path.{_≡_, refl, sym, ap, _∙_, subst}
 use mathlib.Core.Logic.{_⊎_, inl, inr}
 use mathlib.Core.Bool.{Bool, true, false, not, _&&_, _||_, cond, Bool·beq}
 use Prim.Native.Nat.{ℕ, zero, suc, _+_, _-_, _*_, _≤_, _<_}
-use native.Mathlib.Nat.{le-trans, mul-one, mul-right-comm, le-of-eq, mul-pos, mul-le-mul-right, zero-mul, not-le-of-lt, zero-lt-suc, add-comm, add-mul, mul-comm, mul-mul-mul-comm}
+use native.Mathlib.Nat.{le-trans, mul-one, mul-right-comm, le-of-eq, le-of-lt, lt-of-le-of-lt, mul-pos, mul-le-mul-right, zero-mul, not-le-of-lt, zero-lt-suc, add-comm, add-mul, mul-comm, mul-mul-mul-comm}
 use native.Mathlib.Omega.{arith}
 use lib.Dec.{T, ltb, eqb, ltb→lt, nltb→le, eqb→eq, eqb-refl, lit<}
 use lib.IntN.{ℤ, negsuc}
-use lib.Ieee.{Float, nan, inf, fin, Format, binary64, up, down, round, neg, sum, add, sub, le, below, level, fits, isNan}
+use lib.Ieee.{Float, nan, inf, fin, Format, binary64, up, down, round, neg, sum, add, sub, le, below, level, fits, isNan, hid, ones, toBits, ofBits}
 use lib.Ieee.Exact.{HasValue}
-use lib.Ieee.Fits.{and-l, and-r, down-pos}
+use lib.Ieee.Fits.{and-l, and-r, down-pos, add-fits}
 use lib.Ieee.Nearest.{closest, closest-mono}
 use lib.Ieee.Scale.{finite}
 use Rattle.floats.specs.Narrowing.{nearestWhole}
 use Rattle.floats.proofs.Laws.Units.{round-number}
 use Rattle.floats.proofs.Laws.Closest.{closest-above, closest-below, closest-one}
-use Rattle.floats.proofs.Laws.Order.{or-split, AtMost, rounding-mono}
+use Rattle.floats.proofs.Laws.Magnitude.{Finite, below-infinity}
+use Rattle.floats.proofs.Laws.Order.{or-split, clear, pattern-mono, round-clear, AtMost, rounding-mono, values-of-patterns}
 use Rattle.floats.proofs.Laws.Whole.{nearest-whole-exact}
 
 -- ---- a number with a sign, as what it has above zero less what it has below
@@ -214,6 +216,26 @@ add-mono f c x y p q r h = sums-mono f c c x y p p q r (le-itself c p) h
 
 pub add-mono-left : (f : Format) (c x y : Float) → T (finite c) → T (finite x) → T (finite y) → T (le x y) → T (le (add f x c) (add f y c))
 add-mono-left f c x y p q r h = sums-mono f x y c c q r p p h (le-itself c p)
+
+-- the patterns of the sums of two values and a third, each with a clear sign
+sum-clear : (f : Format) (m c : ℕ) → Finite f m → Finite f c → T (clear (add f (ofBits f m) (ofBits f c)))
+sum-clear f m c v w =
+    subst (λ (x : Float). T (clear (add f x (ofBits f c)))) (sym (v .is))
+    (subst (λ (x : Float). T (clear (add f (fin false (v .digits) (v .power)) x))) (sym (w .is)) (go (v .digits) (v .power) (w .digits) (w .power)))
+  where
+    go : (d : ℕ) (p : ℤ) (e : ℕ) (q : ℤ) → T (clear (add f (fin false d p) (fin false e q)))
+    go d p e q = unfold add sum in round-clear f (d * up p * down q + e * up q * down p) (down p * down q)
+
+pub sum-patterns-mono : (f : Format) (m n c : ℕ) → m ≤ n → n < ones f * hid f → c < ones f * hid f → toBits f (add f (ofBits f m) (ofBits f c)) ≤ toBits f (add f (ofBits f n) (ofBits f c))
+sum-patterns-mono f m n c h k l =
+    let u = below-infinity f m (lt-of-le-of-lt h k) in
+    let v = below-infinity f n k in
+    let w = below-infinity f c l in
+    pattern-mono f (add f (ofBits f m) (ofBits f c)) (add f (ofBits f n) (ofBits f c)) (sum-clear f m c u w) (sum-clear f n c v w) (add-fits f (ofBits f m) (ofBits f c)) (add-fits f (ofBits f n) (ofBits f c))
+    (add-mono-left f (ofBits f c) (ofBits f m) (ofBits f n) (finite-of w) (finite-of u) (finite-of v) (values-of-patterns f m n h (le-of-lt k)))
+  where
+    finite-of : {i : ℕ} → Finite f i → T (finite (ofBits f i))
+    finite-of {i} v = subst (λ (x : Float). T (finite x)) (sym (v .is)) tt
 
 -- ---- the nearest whole value
 -- q = b / d is within a half of a / c

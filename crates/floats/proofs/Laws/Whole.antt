@@ -67,32 +67,36 @@ module _ (a c : ℕ) (C : 0 < c) (small : a < 2 ^ 52 * c) where
       more : (x y : ℕ) → x ≤ y → x + y ≤ y + y
       more x y h = omega arith
 
-  sum-value : HasValue (round binary64 false (a + 2 ^ 52 * c) c) false ((closest a c + 2 ^ 52) * 2 ^ 1074) (2 ^ 1074)
+  pub sum-value : HasValue (round binary64 false (a + 2 ^ 52 * c) c) false ((closest a c + 2 ^ 52) * 2 ^ 1074) (2 ^ 1074)
   sum-value =
       subst (λ (g : ℕ). HasValue (round binary64 false (a + 2 ^ 52 * c) c) false g (2 ^ 1074)) sum-grid
       (round-value binary64 false (a + 2 ^ 52 * c) c (subst (λ (g : ℕ). g < overflow binary64) (sym sum-grid) sum-fits))
 
--- ---- and 2 ^ 52 taken off it leaves the whole number
-whole-left : (x q d : ℕ) → x ≡ (q + 2 ^ 52) * d → (x * 1 - 1 * 2 ^ 52 * d) * 1 ≡ q * (d * 1)
-whole-left x q d e = omega arith
+-- ---- and a whole number k taken off it leaves the whole number q
+whole-left : (x q k d : ℕ) → x ≡ (q + k) * d → (x * 1 - k * d) * 1 ≡ q * (d * 1)
+whole-left x q k d e = omega arith
 
-over-52 : (x q d : ℕ) → x ≡ (q + 2 ^ 52) * d → 1 * 2 ^ 52 * d ≤ x * 1
-over-52 x q d e = omega arith
+no-less : (x q k d : ℕ) → x ≡ (q + k) * d → k * d ≤ x * 1
+no-less x q k d e = omega arith
 
-less-52 : (y : Float) (q : ℕ) → HasValue y false ((q + 2 ^ 52) * 2 ^ 1074) (2 ^ 1074) → sub binary64 y (ofBits binary64 0x4330000000000000) ≡ round binary64 false q 1
-unfolding sub add sum neg ofBits
-less-52 nan q v = absurd v
-less-52 (inf s) q v = absurd v
-less-52 (fin t m e) q v = subst (λ (s : Bool). sub binary64 (fin s m e) (ofBits binary64 0x4330000000000000) ≡ round binary64 false q 1) (sym (v .0)) at-clear
+-- a value of w * 2 ^ 1074 units is w
+pub in-wholes : (x w d : ℕ) → x * 2 ^ 1074 ≡ w * 2 ^ 1074 * d → x ≡ w * d
+in-wholes x w d e = eq-of-mul-eq-mul-right (2 ^ 1074) (pow-pos 1074) x (w * d) (e ∙ mul-right-comm w (2 ^ 1074) d)
+
+pub less-whole : (n l : ℕ) (y : Float) (q : ℕ) → HasValue y false ((q + n * 2 ^ l) * 2 ^ 1074) (2 ^ 1074) → sub binary64 y (fin false n (pos l)) ≡ round binary64 false q 1
+unfolding sub add sum neg
+less-whole n l nan q v = absurd v
+less-whole n l (inf s) q v = absurd v
+less-whole n l (fin t m e) q v = subst (λ (s : Bool). sub binary64 (fin s m e) (fin false n (pos l)) ≡ round binary64 false q 1) (sym (v .0)) at-clear
   where
-    x-is : m * up e ≡ (q + 2 ^ 52) * down e
-    x-is = eq-of-mul-eq-mul-right (2 ^ 1074) (pow-pos 1074) (m * up e) ((q + 2 ^ 52) * down e) (v .1 ∙ mul-right-comm (q + 2 ^ 52) (2 ^ 1074) (down e))
+    x-is : m * up e ≡ (q + n * 2 ^ l) * down e
+    x-is = in-wholes (m * up e) (q + n * 2 ^ l) (down e) (v .1)
 
-    at-clear : sub binary64 (fin false m e) (ofBits binary64 0x4330000000000000) ≡ round binary64 false q 1
+    at-clear : sub binary64 (fin false m e) (fin false n (pos l)) ≡ round binary64 false q 1
     at-clear =
-        cond-no (ltb (m * up e * 1) (1 * 2 ^ 52 * down e)) (round binary64 true (1 * 2 ^ 52 * down e - m * up e * 1) (down e * 1)) (round binary64 false (m * up e * 1 - 1 * 2 ^ 52 * down e) (down e * 1))
-        (le→nltb (m * up e * 1) (1 * 2 ^ 52 * down e) (over-52 (m * up e) q (down e) x-is))
-        ∙ round-same binary64 false (m * up e * 1 - 1 * 2 ^ 52 * down e) (down e * 1) q 1 (mul-pos (down-pos e) (lit< tt)) (lit< tt) (whole-left (m * up e) q (down e) x-is)
+        cond-no (ltb (m * up e * 1) (n * 2 ^ l * down e)) (round binary64 true (n * 2 ^ l * down e - m * up e * 1) (down e * 1)) (round binary64 false (m * up e * 1 - n * 2 ^ l * down e) (down e * 1))
+        (le→nltb (m * up e * 1) (n * 2 ^ l * down e) (no-less (m * up e) q (n * 2 ^ l) (down e) x-is))
+        ∙ round-same binary64 false (m * up e * 1 - n * 2 ^ l * down e) (down e * 1) q 1 (mul-pos (down-pos e) (lit< tt)) (lit< tt) (whole-left (m * up e) q (n * 2 ^ l) (down e) x-is)
 
 -- ---- |x| below 2 ^ 52
 sum-cross : (x d k : ℕ) → (x * 1 + 1 * k * d) * d ≡ (x + k * d) * (d * 1)
@@ -108,7 +112,7 @@ low-finite m e t h =
     lt-of-mul-lt-mul-right (2 ^ 1074)
     (subst (λ (x : ℕ). x < 2 ^ 52 * d * 2 ^ 1074) (sym (in-units binary64 false m e t)) (lt-of-lt-of-le (mul-lt-mul-of-pos-right h (down-pos e)) (le-of-eq (mul-right-comm (2 ^ 52) (2 ^ 1074) d)))) in
     ap (λ (y : Float). sub binary64 y (ofBits binary64 0x4330000000000000)) (round-same binary64 false (a * 1 + 1 * 2 ^ 52 * d) (d * 1) (a + 2 ^ 52 * d) d (mul-pos (down-pos e) (lit< tt)) (down-pos e) (sum-cross a d (2 ^ 52)))
-    ∙ less-52 (round binary64 false (a + 2 ^ 52 * d) d) (closest a d) (sum-value a d (down-pos e) small)
+    ∙ less-whole 1 52 (round binary64 false (a + 2 ^ 52 * d) d) (closest a d) (sum-value a d (down-pos e) small)
 
 high-inf : 0x7ff0000000000000 < 1075 * 2 ^ 52 → ⊥
 high-inf h = omega arith

@@ -1,6 +1,6 @@
 -- `compoundf_exp2_t_bits` meets its contract: each arm is the entry of its number, by computing, and the last is never taken. Assumes nothing.
 use Rattle.tables.specs.Tables.{compoundfExp2T}
-use Rattle.tables.proofs.Arms.{at, never}
+use Rattle.floats.proofs.Laws.Arms.{at, never}
 use Rattle.tables.proofs.compoundf_exp2_t_bits.Statement.{statement}
 use Rattle.tables.proofs.compoundf_exp2_t_bits.Tie as tie
 

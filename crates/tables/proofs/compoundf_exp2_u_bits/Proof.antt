@@ -1,6 +1,6 @@
 -- `compoundf_exp2_u_bits` meets its contract: each arm is the entry of its number, by computing, and the last is never taken. Assumes nothing.
 use Rattle.tables.specs.Tables.{compoundfExp2U}
-use Rattle.tables.proofs.Arms.{pair-at, never}
+use Rattle.floats.proofs.Laws.Arms.{pair-at, never}
 use Rattle.tables.proofs.compoundf_exp2_u_bits.Statement.{statement}
 use Rattle.tables.proofs.compoundf_exp2_u_bits.Tie as tie
 

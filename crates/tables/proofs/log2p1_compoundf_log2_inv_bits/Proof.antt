@@ -1,6 +1,6 @@
 -- `log2p1_compoundf_log2_inv_bits` meets its contract: each arm is the entry of its number, by computing, and the last is never taken. Assumes nothing.
 use Rattle.tables.specs.Tables.{log2p1CompoundfLog2Inv}
-use Rattle.tables.proofs.Arms.{pair-at, never}
+use Rattle.floats.proofs.Laws.Arms.{pair-at, never}
 use Rattle.tables.proofs.log2p1_compoundf_log2_inv_bits.Statement.{statement}
 use Rattle.tables.proofs.log2p1_compoundf_log2_inv_bits.Tie as tie
 

@@ -1,6 +1,6 @@
 -- `log2p1_log2_poly_bits` meets its contract: each arm is the entry of its number, by computing, and the last is never taken. Assumes nothing.
 use Rattle.tables.specs.Tables.{log2p1Log2Poly}
-use Rattle.tables.proofs.Arms.{at, never}
+use Rattle.floats.proofs.Laws.Arms.{at, never}
 use Rattle.tables.proofs.log2p1_log2_poly_bits.Statement.{statement}
 use Rattle.tables.proofs.log2p1_log2_poly_bits.Tie as tie
 

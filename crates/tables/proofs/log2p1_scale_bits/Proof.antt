@@ -1,64 +1,9 @@
--- `log2p1_scale_bits` meets its contract: each arm is the entry of its number, by computing, and the last is never taken. Assumes nothing.
-use Rattle.tables.specs.Tables.{log2p1Scale}
-use Rattle.tables.proofs.Arms.{at, never}
+-- `log2p1_scale_bits` meets its contract: the table has its rule. Assumes nothing.
+use borrow.Author.Needs.{needs}
+use mathlib.Core.Path.{sym}
+use Rattle.tables.proofs.Entries.{scale-pattern}
 use Rattle.tables.proofs.log2p1_scale_bits.Statement.{statement}
 use Rattle.tables.proofs.log2p1_scale_bits.Tie as tie
 
 pub log2p1-scale-bits-spec : {M : Type 1} → statement M
-unfolding log2p1Scale
-log2p1-scale-bits-spec =
-    tie.close (tie.spec
-    (λ c. at log2p1Scale (c .match .keys1)) (λ c. at log2p1Scale (c .match .keys2)) (λ c. at log2p1Scale (c .match .keys3))
-    (λ c. at log2p1Scale (c .match .keys4)) (λ c. at log2p1Scale (c .match .keys5)) (λ c. at log2p1Scale (c .match .keys6))
-    (λ c. at log2p1Scale (c .match .keys7)) (λ c. at log2p1Scale (c .match .keys8)) (λ c. at log2p1Scale (c .match .keys9))
-    (λ c. at log2p1Scale (c .match .keys10)) (λ c. at log2p1Scale (c .match .keys11)) (λ c. at log2p1Scale (c .match .keys12))
-    (λ c. at log2p1Scale (c .match .keys13)) (λ c. at log2p1Scale (c .match .keys14)) (λ c. at log2p1Scale (c .match .keys15))
-    (λ c. at log2p1Scale (c .match .keys16)) (λ c. at log2p1Scale (c .match .keys17)) (λ c. at log2p1Scale (c .match .keys18))
-    (λ c. at log2p1Scale (c .match .keys19)) (λ c. at log2p1Scale (c .match .keys20)) (λ c. at log2p1Scale (c .match .keys21))
-    (λ c. at log2p1Scale (c .match .keys22)) (λ c. at log2p1Scale (c .match .keys23)) (λ c. at log2p1Scale (c .match .keys24))
-    (λ c. at log2p1Scale (c .match .keys25)) (λ c. at log2p1Scale (c .match .keys26)) (λ c. at log2p1Scale (c .match .keys27))
-    (λ c. at log2p1Scale (c .match .keys28)) (λ c. at log2p1Scale (c .match .keys29)) (λ c. at log2p1Scale (c .match .keys30))
-    (λ c. at log2p1Scale (c .match .keys31)) (λ c. at log2p1Scale (c .match .keys32)) (λ c. at log2p1Scale (c .match .keys33))
-    (λ c. at log2p1Scale (c .match .keys34)) (λ c. at log2p1Scale (c .match .keys35)) (λ c. at log2p1Scale (c .match .keys36))
-    (λ c. at log2p1Scale (c .match .keys37)) (λ c. at log2p1Scale (c .match .keys38)) (λ c. at log2p1Scale (c .match .keys39))
-    (λ c. at log2p1Scale (c .match .keys40)) (λ c. at log2p1Scale (c .match .keys41)) (λ c. at log2p1Scale (c .match .keys42))
-    (λ c. at log2p1Scale (c .match .keys43)) (λ c. at log2p1Scale (c .match .keys44)) (λ c. at log2p1Scale (c .match .keys45))
-    (λ c. at log2p1Scale (c .match .keys46)) (λ c. at log2p1Scale (c .match .keys47)) (λ c. at log2p1Scale (c .match .keys48))
-    (λ c. at log2p1Scale (c .match .keys49)) (λ c. at log2p1Scale (c .match .keys50)) (λ c. at log2p1Scale (c .match .keys51))
-    (λ c. at log2p1Scale (c .match .keys52)) (λ c. at log2p1Scale (c .match .keys53)) (λ c. at log2p1Scale (c .match .keys54))
-    (λ c. at log2p1Scale (c .match .keys55)) (λ c. at log2p1Scale (c .match .keys56)) (λ c. at log2p1Scale (c .match .keys57))
-    (λ c. at log2p1Scale (c .match .keys58)) (λ c. at log2p1Scale (c .match .keys59)) (λ c. at log2p1Scale (c .match .keys60))
-    (λ c. at log2p1Scale (c .match .keys61)) (λ c. at log2p1Scale (c .match .keys62)) (λ c. at log2p1Scale (c .match .keys63))
-    (λ c. at log2p1Scale (c .match .keys64)) (λ c. at log2p1Scale (c .match .keys65)) (λ c. at log2p1Scale (c .match .keys66))
-    (λ c. at log2p1Scale (c .match .keys67)) (λ c. at log2p1Scale (c .match .keys68)) (λ c. at log2p1Scale (c .match .keys69))
-    (λ c. at log2p1Scale (c .match .keys70)) (λ c. at log2p1Scale (c .match .keys71)) (λ c. at log2p1Scale (c .match .keys72))
-    (λ c. at log2p1Scale (c .match .keys73)) (λ c. at log2p1Scale (c .match .keys74)) (λ c. at log2p1Scale (c .match .keys75))
-    (λ c. at log2p1Scale (c .match .keys76)) (λ c. at log2p1Scale (c .match .keys77)) (λ c. at log2p1Scale (c .match .keys78))
-    (λ c. at log2p1Scale (c .match .keys79)) (λ c. at log2p1Scale (c .match .keys80)) (λ c. at log2p1Scale (c .match .keys81))
-    (λ c. at log2p1Scale (c .match .keys82)) (λ c. at log2p1Scale (c .match .keys83)) (λ c. at log2p1Scale (c .match .keys84))
-    (λ c. at log2p1Scale (c .match .keys85)) (λ c. at log2p1Scale (c .match .keys86)) (λ c. at log2p1Scale (c .match .keys87))
-    (λ c. at log2p1Scale (c .match .keys88)) (λ c. at log2p1Scale (c .match .keys89)) (λ c. at log2p1Scale (c .match .keys90))
-    (λ c. at log2p1Scale (c .match .keys91)) (λ c. at log2p1Scale (c .match .keys92)) (λ c. at log2p1Scale (c .match .keys93))
-    (λ c. at log2p1Scale (c .match .keys94)) (λ c. at log2p1Scale (c .match .keys95)) (λ c. at log2p1Scale (c .match .keys96))
-    (λ c. at log2p1Scale (c .match .keys97)) (λ c. at log2p1Scale (c .match .keys98)) (λ c. at log2p1Scale (c .match .keys99))
-    (λ c. at log2p1Scale (c .match .keys100)) (λ c. at log2p1Scale (c .match .keys101)) (λ c. at log2p1Scale (c .match .keys102))
-    (λ c. at log2p1Scale (c .match .keys103)) (λ c. at log2p1Scale (c .match .keys104)) (λ c. at log2p1Scale (c .match .keys105))
-    (λ c. at log2p1Scale (c .match .keys106)) (λ c. at log2p1Scale (c .match .keys107)) (λ c. at log2p1Scale (c .match .keys108))
-    (λ c. at log2p1Scale (c .match .keys109)) (λ c. at log2p1Scale (c .match .keys110)) (λ c. at log2p1Scale (c .match .keys111))
-    (λ c. at log2p1Scale (c .match .keys112)) (λ c. at log2p1Scale (c .match .keys113)) (λ c. at log2p1Scale (c .match .keys114))
-    (λ c. at log2p1Scale (c .match .keys115)) (λ c. at log2p1Scale (c .match .keys116)) (λ c. at log2p1Scale (c .match .keys117))
-    (λ c. at log2p1Scale (c .match .keys118)) (λ c. at log2p1Scale (c .match .keys119)) (λ c. at log2p1Scale (c .match .keys120))
-    (λ c. at log2p1Scale (c .match .keys121)) (λ c. at log2p1Scale (c .match .keys122)) (λ c. at log2p1Scale (c .match .keys123))
-    (λ c. at log2p1Scale (c .match .keys124)) (λ c. at log2p1Scale (c .match .keys125)) (λ c. at log2p1Scale (c .match .keys126))
-    (λ c. at log2p1Scale (c .match .keys127)) (λ c. at log2p1Scale (c .match .keys128)) (λ c. at log2p1Scale (c .match .keys129))
-    (λ c. at log2p1Scale (c .match .keys130)) (λ c. at log2p1Scale (c .match .keys131)) (λ c. at log2p1Scale (c .match .keys132))
-    (λ c. at log2p1Scale (c .match .keys133)) (λ c. at log2p1Scale (c .match .keys134)) (λ c. at log2p1Scale (c .match .keys135))
-    (λ c. at log2p1Scale (c .match .keys136)) (λ c. at log2p1Scale (c .match .keys137)) (λ c. at log2p1Scale (c .match .keys138))
-    (λ c. at log2p1Scale (c .match .keys139)) (λ c. at log2p1Scale (c .match .keys140)) (λ c. at log2p1Scale (c .match .keys141))
-    (λ c. at log2p1Scale (c .match .keys142)) (λ c. at log2p1Scale (c .match .keys143)) (λ c. at log2p1Scale (c .match .keys144))
-    (λ c. at log2p1Scale (c .match .keys145)) (λ c. at log2p1Scale (c .match .keys146)) (λ c. at log2p1Scale (c .match .keys147))
-    (λ c. at log2p1Scale (c .match .keys148)) (λ c. at log2p1Scale (c .match .keys149)) (λ c. at log2p1Scale (c .match .keys150))
-    (λ c. at log2p1Scale (c .match .keys151)) (λ c. at log2p1Scale (c .match .keys152)) (λ c. at log2p1Scale (c .match .keys153))
-    (λ c. at log2p1Scale (c .match .keys154)) (λ c. at log2p1Scale (c .match .keys155)) (λ c. at log2p1Scale (c .match .keys156))
-    (λ c. at log2p1Scale (c .match .keys157)) (λ c. at log2p1Scale (c .match .keys158))
-    (λ c. never 158 _ (c .before .pre) (c .match .rest)))
+log2p1-scale-bits-spec = tie.close (tie.spec (λ c. search needs) (λ c. search needs) (λ c. sym (scale-pattern _ (c .pre))))

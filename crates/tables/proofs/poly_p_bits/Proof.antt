@@ -1,6 +1,6 @@
 -- `poly_p_bits` meets its contract: each arm is the entry of its number, by computing, and the last is never taken. Assumes nothing.
 use Rattle.tables.specs.Tables.{log2p1PolyP}
-use Rattle.tables.proofs.Arms.{at, never}
+use Rattle.floats.proofs.Laws.Arms.{at, never}
 use Rattle.tables.proofs.poly_p_bits.Statement.{statement}
 use Rattle.tables.proofs.poly_p_bits.Tie as tie
 

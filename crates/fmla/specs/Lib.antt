@@ -1,0 +1,2 @@
+-- The definitions that the contracts of `fmla` cite.
+pub mod Fmla
