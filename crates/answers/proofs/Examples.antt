@@ -7,9 +7,9 @@ use lib.Dec.{lit<}
 use lib.Ieee.{Float, binary32, ofBits, toBits, toUnsigned, round, add, mul, div, lt, le, eq, isNan}
 use Rattle.floats.specs.Narrowing.{narrowed, nearestF32}
 use Rattle.floats.specs.OnBits.{absolute, isInteger}
-use Rattle.compound.specs.Special.{one, isZero, isSpecial, isRule, fromMinusOneToZero, specialTable, firstThatFits, special}
-use Rattle.compound.specs.Whole as Whole
-use Rattle.compound.specs.Whole.{isWhole, isTiny, squarings, power}
+use Rattle.special.specs.Special.{one, isZero, isSpecial, isRule, fromMinusOneToZero, specialTable, firstThatFits, special}
+use Rattle.whole.specs.Whole as Whole
+use Rattle.whole.specs.Whole.{isWhole, isTiny, squarings, power}
 use Rattle.compound.specs.Route.{compound}
 use Rattle.answers.specs.Claims.{answer, nanExactly, signClear}
 use Rattle.answers.specs.Exact as Exact

@@ -14,12 +14,12 @@ use Rattle.floats.specs.OnBits.{absolute}
 use Rattle.floats.proofs.Laws.Sums.{SizeAtMost}
 use Rattle.bounds.proofs.Compared.{at-most}
 use Rattle.compound.specs.Answer.{Via, rule, whole, edge, fast, slow}
-use Rattle.compound.specs.Special as Special
-use Rattle.compound.specs.Special.{isRule, special}
-use Rattle.compound.specs.Whole as Whole
-use Rattle.compound.specs.Fast.{compoundfLog2p1Fast, powerPlace, powerIndex, HasPower, exp2Fast}
+use Rattle.special.specs.Special as Special
+use Rattle.special.specs.Special.{isRule, special}
+use Rattle.whole.specs.Whole as Whole
+use Rattle.fast_path.specs.Fast.{compoundfLog2p1Fast, powerPlace, powerIndex, HasPower, exp2Fast}
 use Rattle.compound.specs.Route.{Tabled, decided, fromLogarithm, tablePath, compound}
-use Rattle.compound.proofs.Rule.{off-rule}
+use Rattle.special.proofs.Rule.{off-rule}
 use Rattle.answers.specs.Reached.{tNumber, slowK, slowRest, indexInside, kInside, Reached}
 use Rattle.answers.proofs.Slow.SlowSign.{exponent-number, slow-index, slow-k}
 

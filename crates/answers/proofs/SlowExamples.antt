@@ -11,11 +11,11 @@ use Rattle.floats.specs.OnBits.{absolute, isInteger}
 use Rattle.double_double.specs.DoubleDouble.{split, fromExactMult, fromExactAdd, fromFullExactAdd, quickMult, quickMultF64, fullAddF64, ddFmla}
 use Rattle.tables.specs.Tables.{entry, fromBitPair, pairEntry, log2p1CompoundfInv, log2p1CompoundfLog2Inv, compoundfExp2T, compoundfExp2U, log2p1Scale, log2p1PolyP, expfPolyQ, log2p1Log2Poly}
 use Rattle.compound.specs.Answer.{slow}
-use Rattle.compound.specs.Special.{isZero, isSpecial, isRule}
-use Rattle.compound.specs.Whole.{isWhole}
-use Rattle.compound.specs.Scaling.{scaled, biased, exponentOf}
-use Rattle.compound.specs.Fast.{log2p1Polyeval1, compoundfExpfPoly, inverseIndex, compoundfLog2p1Fast, powerPlace, powerIndex, exp2Reduced, roundingTest, exp2Fast}
-use Rattle.compound.specs.Slow.{droppingH, nextLog2, higher, log2Poly2, onePlus, timesInverse, sumOfLogs, log2Reduced, compoundfLog2p1Accurate}
+use Rattle.special.specs.Special.{isZero, isSpecial, isRule}
+use Rattle.whole.specs.Whole.{isWhole}
+use Rattle.fast_path.specs.Scaling.{scaled, biased, exponentOf}
+use Rattle.fast_path.specs.Fast.{log2p1Polyeval1, compoundfExpfPoly, inverseIndex, compoundfLog2p1Fast, powerPlace, powerIndex, exp2Reduced, roundingTest, exp2Fast}
+use Rattle.slow_path.specs.Slow.{droppingH, nextLog2, higher, log2Poly2, onePlus, timesInverse, sumOfLogs, log2Reduced, compoundfLog2p1Accurate}
 use Rattle.compound.specs.Route.{decided, fromLogarithm, tablePath, compound}
 use Rattle.answers.specs.Reached.{slowK, slowRest}
 

@@ -7,7 +7,7 @@ use lib.IntN.{pos}
 use lib.Ieee.{Float, fin, binary32, ofBits, toBits, isNan, lt, le}
 use Rattle.floats.specs.Narrowing.{nearestF32}
 use Rattle.floats.specs.OnBits.{absolute, isInteger}
-use Rattle.compound.specs.Special.{one, minusOne, isZero}
+use Rattle.special.specs.Special.{one, minusOne, isZero}
 use Rattle.compound.specs.Route.{compound}
 use Rattle.answers.specs.Exact.{Fraction, exact}
 

@@ -12,9 +12,9 @@ use Rattle.floats.specs.OnBits.{absolute}
 use Rattle.double_double.specs.declared.DoubleDouble.{DoubleDouble}
 use Rattle.double_double.specs.DoubleDouble.{fromExactAdd, quickMultF64}
 use Rattle.compound.specs.Answer.{slow}
-use Rattle.compound.specs.Special.{isRule}
-use Rattle.compound.specs.Fast.{compoundfLog2p1Fast, powerPlace}
-use Rattle.compound.specs.Slow.{compoundfLog2p1Accurate}
+use Rattle.special.specs.Special.{isRule}
+use Rattle.fast_path.specs.Fast.{compoundfLog2p1Fast, powerPlace}
+use Rattle.slow_path.specs.Slow.{compoundfLog2p1Accurate}
 use Rattle.compound.specs.Route.{compound}
 
 -- t = l×y of the table path is no NaN where the route is not `rule`. So `not (t < 128)` in compound/specs/Route.antt is "t >= 128".

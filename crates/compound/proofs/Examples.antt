@@ -3,9 +3,9 @@ use mathlib.Core.Path.{refl}
 use lib.Ieee.{ofBits, toBits, toUnsigned, add, mul, div, lt, le, eq, isNan}
 use Rattle.floats.specs.Narrowing.{narrowed}
 use Rattle.floats.specs.OnBits.{absolute, isInteger}
-use Rattle.compound.specs.Special.{isZero, isSpecial, isRule, fromMinusOneToZero, specialTable, firstThatFits, special}
-use Rattle.compound.specs.Whole as Whole
-use Rattle.compound.specs.Whole.{isWhole, isTiny, tiny, squarings, power}
+use Rattle.special.specs.Special.{isZero, isSpecial, isRule, fromMinusOneToZero, specialTable, firstThatFits, special}
+use Rattle.whole.specs.Whole as Whole
+use Rattle.whole.specs.Whole.{isWhole, isTiny, tiny, squarings, power}
 use Rattle.compound.specs.Route.{compound}
 use Rattle.compound.specs.Starred.{StarredPairs}
 

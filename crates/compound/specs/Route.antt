@@ -7,13 +7,13 @@ use lib.Ieee.{Float, fin, binary32, binary64, fits, toBits, lt, le}
 use lib.Ieee.Scale.{finite}
 use Rattle.floats.specs.Operations.{_⊗_}
 use Rattle.floats.specs.Narrowing.{narrowed}
-use Rattle.compound.specs.declared.Exp2.{Exp2}
-use Rattle.compound.specs.declared.Exp2.the-variants.{Rounded, Failed}
+use Rattle.fast_path.specs.declared.Exp2.{Exp2}
+use Rattle.fast_path.specs.declared.Exp2.the-variants.{Rounded, Failed}
 use Rattle.compound.specs.Answer.{Outcome, rule, whole, edge, fast, slow}
-use Rattle.compound.specs.Special as Special
-use Rattle.compound.specs.Whole as Whole
-use Rattle.compound.specs.Fast.{compoundfLog2p1Fast, exp2Fast}
-use Rattle.compound.specs.Slow.{compoundfAccurate}
+use Rattle.special.specs.Special as Special
+use Rattle.whole.specs.Whole as Whole
+use Rattle.fast_path.specs.Fast.{compoundfLog2p1Fast, exp2Fast}
+use Rattle.slow_path.specs.Slow.{compoundfAccurate}
 
 -- what the functions of the table path ask of x and y, and what is so past the route `rule`: two f32s, both finite, x above -1
 pub record Tabled (x y : Float) : Type 0 where

@@ -2,22 +2,17 @@
 // `f_compoundf` in `compoundf.rs` of pxfm 0.1.30 (NOTICE). For every pair of patterns the answer is
 // the definition's, in specs/Route.antt, route and value.
 use crate::route::table_path;
-use crate::special::as_compoundf_special;
-use crate::special::is_rule;
-use crate::whole::is_whole;
-use crate::whole::whole;
+use special::as_compoundf_special;
+use special::is_rule;
+use whole::is_whole;
+use whole::whole;
 ghost use mathlib.Core.Path.{_≡_};
 ghost use lib.Ieee.{binary32, ofBits};
 ghost use Rattle.compound.specs.Answer.{outcome};
 ghost use Rattle.compound.specs.Route as spec;
 ghost use Rattle.compound.specs.Starred.{StarredPairs};
 
-mod fast;
 mod route;
-mod scaling;
-mod slow;
-mod special;
-mod whole;
 
 // The answer: one of five routes, each carrying its f32.
 pub enum Answer {
@@ -28,12 +23,6 @@ pub enum Answer {
     Slow(f32),
 }
 
-// What `exp2_fast` finds: a number near 2^t where the rounding test passes, or that it fails.
-pub enum Exp2 {
-    Rounded(f64),
-    Failed,
-}
-
 // (1 + x)^y, for the f32s x and y of the patterns nx and ny.
 pub fn f_compoundf(nx: u32, ny: u32) -> Answer
     ensures { λ r. ⌜ outcome r ≡ spec.compound (ofBits binary32 nx) (ofBits binary32 ny) ⌝ }
@@ -41,12 +30,10 @@ pub fn f_compoundf(nx: u32, ny: u32) -> Answer
     if is_rule(nx, ny) {
         return Answer::Rule(as_compoundf_special(nx, ny));
     }
-    let x = f32::from_bits(nx);
-    let y = f32::from_bits(ny);
     if is_whole(nx, ny) {
-        return Answer::Whole(whole(x, y));
+        return Answer::Whole(whole(f32::from_bits(nx), f32::from_bits(ny)));
     }
-    table_path(x, y)
+    table_path(nx, ny)
 }
 
 // The table of pairs at the edges: route and value at each starred one. There is nothing to run: the

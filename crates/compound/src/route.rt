@@ -1,18 +1,22 @@
 // The choice of the route past the special operands and the whole exponents: by t = y * log2(1 + x).
 // A translation of the second half of `f_compoundf` in `compoundf.rs` of pxfm 0.1.30 (NOTICE).
 use crate::Answer;
-use crate::Exp2;
-use crate::fast::compoundf_log2p1_fast;
-use crate::fast::exp2_fast;
-use crate::slow::compoundf_accurate;
+use fast_path::Exp2;
+use fast_path::compoundf_log2p1_fast;
+use fast_path::exp2_fast;
+use filter::Found;
+use filter::filtered;
 use floats::narrowing::narrow;
+use floats::patterns::widen_bits;
+use slow_filter::slow_answer;
+use slow_path::compoundf_accurate;
 ghost use mathlib.Core.Path.{_≡_};
 ghost use mathlib.Core.Bool.{true, false};
 ghost use lib.Dec.{T};
 ghost use lib.IntN.{pos};
-ghost use lib.Ieee.{fin, lt};
+ghost use lib.Ieee.{binary32, fin, lt, ofBits};
 ghost use Rattle.compound.specs.Answer.{outcome};
-ghost use Rattle.compound.specs.Fast.{exp2Fast};
+ghost use Rattle.fast_path.specs.Fast.{exp2Fast};
 ghost use Rattle.compound.specs.Route as spec;
 
 // The routes `fast` and `slow`: whichever the tests in `exp2_fast` say.
@@ -45,13 +49,28 @@ fn from_logarithm(x: f64, y: f64, t: f64) -> Answer
     Answer::Edge(f32::from_bits(0x7f80_0000))
 }
 
-// The answer past the routes `rule` and `whole`.
-pub(crate) fn table_path(x: f32, y: f32) -> Answer
+// The answer past the routes `rule` and `whole`, as the source has it.
+fn as_written(x: f64, y: f64) -> Answer
     requires { ⌜ spec.Tabled x y ⌝ }
     ensures { λ r. ⌜ outcome r ≡ spec.tablePath x y ⌝ }
 {
-    let xd = x as f64;
-    let yd = y as f64;
-    let l = compoundf_log2p1_fast(xd);
-    from_logarithm(xd, yd, l * yd)
+    let l = compoundf_log2p1_fast(x);
+    from_logarithm(x, y, l * y)
+}
+
+// The same for the f32s of the patterns nx and ny: by the filter where it settles the answer.
+pub(crate) fn table_path(nx: u32, ny: u32) -> Answer
+    requires { ⌜ spec.Tabled (ofBits binary32 nx) (ofBits binary32 ny) ⌝ }
+    ensures { λ r. ⌜ outcome r ≡ spec.tablePath (ofBits binary32 nx) (ofBits binary32 ny) ⌝ }
+{
+    let x = widen_bits(nx);
+    let y = widen_bits(ny);
+    match filtered(x, y) {
+        Found::Fast(v) => Answer::Fast(v),
+        Found::Slow => Answer::Slow(slow_answer(x, y)),
+        Found::Low => Answer::Edge(0.0),
+        Found::High => Answer::Edge(f32::from_bits(0x7f80_0000)),
+        Found::One => Answer::Edge(1.0),
+        Found::Unsure => as_written(x, y),
+    }
 }

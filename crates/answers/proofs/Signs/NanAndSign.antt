@@ -9,10 +9,10 @@ use lib.Dec.{T, ltb→lt}
 use lib.Ieee.{Float, nan, inf, fin, binary32, up, down, fits, isNan, lt}
 use lib.Ieee.Bits.{is-false}
 use Rattle.compound.specs.Answer.{Outcome, rule, whole}
-use Rattle.compound.specs.Special.{minusOne, isRule, special}
-use Rattle.compound.specs.Whole as Whole
+use Rattle.special.specs.Special.{minusOne, isRule, special}
+use Rattle.whole.specs.Whole as Whole
 use Rattle.compound.specs.Route.{tablePath, compound}
-use Rattle.compound.proofs.Rule.{OffRule, off-rule, finite-number}
+use Rattle.special.proofs.Rule.{OffRule, off-rule, finite-number}
 use Rattle.answers.specs.Claims.{answer, nanExactly, signClear}
 use Rattle.answers.proofs.Signs.Plain.{Plain, NanOrPlain, told-nan, told-sign}
 use Rattle.answers.proofs.Signs.RuleValues.{rule-told}

@@ -10,7 +10,7 @@ use Rattle.floats.proofs.Laws.Magnitude.{inf-under-top}
 use Rattle.floats.proofs.Laws.Narrow.{narrowed-fits}
 use Rattle.floats.proofs.Laws.Order.{clear, round-clear}
 use Rattle.floats.proofs.Laws.Units.{bits-under-top}
-use Rattle.compound.specs.Special.{zero, one, +infinity}
+use Rattle.special.specs.Special.{zero, one, +infinity}
 
 pub record Plain (r : Float) : Type 0 where
   pub in-f32 : T (fits binary32 r)

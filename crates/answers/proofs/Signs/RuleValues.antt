@@ -4,8 +4,8 @@ use mathlib.Core.Path.{_≡_, refl, sym, _∙_}
 use mathlib.Core.Bool.{Bool, true, false, _||_, true≢false}
 use mathlib.Core.List.{List, [], _∷_}
 use lib.Ieee.{Float, nan, isNan, lt}
-use Rattle.compound.specs.Special.{minusOne, isRule, specialTable, firstThatFits, special}
-use Rattle.compound.proofs.Rule.{anyRowFits, a-row-fits}
+use Rattle.special.specs.Special.{minusOne, isRule, specialTable, firstThatFits, special}
+use Rattle.special.proofs.Rule.{anyRowFits, a-row-fits}
 use Rattle.answers.proofs.Signs.Plain.{Plain, NanOrPlain, plain-zero, plain-one, plain-infinity}
 
 -- every row of a table has a plain value, and so has the first that fits

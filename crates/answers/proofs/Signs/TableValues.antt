@@ -16,11 +16,11 @@ use Rattle.floats.proofs.Laws.Narrow.{narrowed-fits}
 use Rattle.floats.proofs.Laws.Order.{clear}
 use Rattle.double_double.specs.declared.DoubleDouble.{DoubleDouble}
 use Rattle.double_double.specs.DoubleDouble.{quickMultF64}
-use Rattle.compound.specs.declared.Exp2.the-variants.{Rounded, Failed}
+use Rattle.fast_path.specs.declared.Exp2.the-variants.{Rounded, Failed}
 use Rattle.compound.specs.Answer.{edge}
-use Rattle.compound.specs.Special as Special
-use Rattle.compound.specs.Fast.{compoundfLog2p1Fast, roundingTest, exp2Fast}
-use Rattle.compound.specs.Slow.{compoundfLog2p1Accurate, isNearOne, scaledToF32, exp2Away, exp2Accurate, compoundfAccurate}
+use Rattle.special.specs.Special as Special
+use Rattle.fast_path.specs.Fast.{compoundfLog2p1Fast, roundingTest, exp2Fast}
+use Rattle.slow_path.specs.Slow.{compoundfLog2p1Accurate, isNearOne, scaledToF32, exp2Away, exp2Accurate, compoundfAccurate}
 use Rattle.compound.specs.Route.{Tabled, decided, fromLogarithm, tablePath}
 use Rattle.answers.proofs.Signs.Plain.{Plain, plain-zero, plain-one, plain-infinity, plain-narrowed, either}
 

@@ -18,11 +18,11 @@ use Rattle.floats.specs.OnBits.{absolute}
 use Rattle.floats.proofs.Laws.Compare.{at-most}
 use Rattle.floats.proofs.Laws.Order.{le-either, clear, clear-both, round-clear, round-at-most, round-at-least}
 use Rattle.floats.proofs.Laws.Sums.{add-turned}
-use Rattle.compound.specs.Special as Special
-use Rattle.compound.specs.Special.{one, minusOne}
-use Rattle.compound.specs.Whole.{isWhole, isTiny, tiny, squarings, power, whole}
-use Rattle.compound.proofs.Scaled.{sum-clear}
-use Rattle.compound.proofs.Tiny.{tiny-is-one}
+use Rattle.special.specs.Special as Special
+use Rattle.special.specs.Special.{one, minusOne}
+use Rattle.whole.specs.Whole.{isWhole, isTiny, tiny, squarings, power, whole}
+use Rattle.fast_path.proofs.OnePlus.{sum-clear}
+use Rattle.whole.proofs.Tiny.{tiny-is-one}
 use Rattle.answers.proofs.Signs.Plain.{Plain, plain-one, plain-narrowed, either}
 
 -- ---- products of values from 1 up

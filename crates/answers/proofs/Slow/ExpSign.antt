@@ -3,7 +3,7 @@
 -- nothing.
 use mathlib.Core.Path.{_≡_, sym, ap, _∙_, subst}
 use mathlib.Core.Bool.{Bool, true, false, cond}
-use Prim.Native.Nat.{ℕ, suc, _+_, _-_, _*_, _%_, _^_, _≤_, _<_, min}
+use Prim.Native.Nat.{ℕ, suc, _+_, _-_, _*_, _%_, _^_, _≤_, _<_}
 use native.Mathlib.Nat.{sub-le, add-mul-mod-self-right}
 use native.Mathlib.Omega.{arith}
 use lib.Dec.{T}
@@ -14,16 +14,16 @@ use Rattle.floats.proofs.Laws.Magnitude.{below-infinity}
 use Rattle.floats.proofs.Laws.Order.{clear}
 use Rattle.double_double.specs.declared.DoubleDouble.{DoubleDouble}
 use Rattle.double_double.specs.DoubleDouble.{fromExactAdd}
-use Rattle.compound.specs.Special.{zero}
-use Rattle.compound.specs.Scaling.{scaled, Within}
-use Rattle.compound.specs.Fast.{powerIndex, HasPower}
-use Rattle.compound.specs.Slow.{clampedIndex, clampedK, testPattern, isLost, oneTowards, roundedToOdd, scaledToF32, exp2Product, isSmall, exp2Away}
-use Rattle.compound.proofs.Index.{clamped-k-within}
+use Rattle.special.specs.Special.{zero}
+use Rattle.fast_path.specs.Scaling.{scaled, Within}
+use Rattle.fast_path.specs.Fast.{powerIndex, HasPower}
+use Rattle.slow_path.specs.Slow.{clampedIndex, clampedK, testPattern, isLost, oneTowards, roundedToOdd, scaledToF32, exp2Product, isSmall, exp2Away}
+use Rattle.slow_path.proofs.Clamped.{index-unclamped, clamped-k-within}
 use Rattle.bounds.proofs.Scales.{S, Bound, at, fast-bounds}
 use Rattle.bounds.proofs.Compared.{positive-at, positive-add, positive-bits}
 use Rattle.answers.proofs.Signs.Plain.{plain-narrowed}
-use Rattle.answers.proofs.Slow.ExpSize.{Product, product-near-one}
-use Rattle.answers.proofs.Slow.PowerSlot.{Slot, power-slot}
+use Rattle.slow_path.proofs.ExpSize.{Product, product-near-one}
+use Rattle.fast_path.proofs.PowerSlot.{Slot, power-slot}
 
 -- ---- the pattern, with k added to the exponent's field
 abbrev Middle : ℕ → Type 0
@@ -77,13 +77,6 @@ scaled-clear q small k p h =
     plain-narrowed (f64 (scaled n k)) (below-clear (scaled n k) (scaled-below n k (rounded-middle q (testPattern q small k) (bits .0) (bits .1)) h)) .is-clear
 
 -- ---- the index, and all of it
-index-unclamped : (r : Float) → powerIndex r < 33 → powerIndex r ≡ clampedIndex r
-unfolding clampedIndex
-index-unclamped r h = go (powerIndex r) h
-  where
-    go : (i : ℕ) → i < 33 → i ≡ min i 32
-    go i h = omega arith
-
 -- v.hi is 65/128 at most in size
 abbrev shifted : DoubleDouble → Float → DoubleDouble
 shifted t k = fromExactAdd (t .hi ⊖ k) (t .lo)

@@ -16,18 +16,18 @@ use Rattle.floats.proofs.Laws.Sums.{add-mono}
 use Rattle.double_double.specs.declared.DoubleDouble.{DoubleDouble}
 use Rattle.double_double.specs.DoubleDouble.{split, fromExactMult, fromExactAdd, fromFullExactAdd, fullAddF64, ddFmla}
 use Rattle.tables.specs.Tables.{entry, pairEntry, fromBitPair, log2p1CompoundfInv, log2p1CompoundfLog2Inv, log2p1Scale, log2p1PolyP}
-use Rattle.compound.specs.Special.{one, minusOne}
-use Rattle.compound.specs.Scaling.{scaled, biased, exponentOf}
-use Rattle.compound.specs.Fast.{inverseIndex, log2p1Polyeval1, compoundfLog2p1Fast}
-use Rattle.compound.specs.Slow.{onePlus, timesInverse, log2Reduced, log2Poly2, sumOfLogs, compoundfLog2p1Accurate}
-use Rattle.compound.proofs.Index.{pattern-between}
+use Rattle.special.specs.Special.{one, minusOne}
+use Rattle.fast_path.specs.Scaling.{scaled, biased, exponentOf}
+use Rattle.fast_path.specs.Fast.{inverseIndex, log2p1Polyeval1, compoundfLog2p1Fast}
+use Rattle.slow_path.specs.Slow.{onePlus, timesInverse, log2Reduced, log2Poly2, sumOfLogs, compoundfLog2p1Accurate}
+use Rattle.fast_path.proofs.Index.{pattern-between}
 use Rattle.bounds.proofs.Values.{plus, less, mag, Number}
 use Rattle.bounds.proofs.Scales.{S, unit, unit-left, Scale, Bound, at, mul-bound, fast-bounds, tested}
 use Rattle.bounds.proofs.Compared.{le-of-units, positive-bound}
-use Rattle.answers.proofs.Slow.Logs.{Logs, near, nil-bound}
-use Rattle.answers.proofs.Slow.LogCases.{Nil}
-use Rattle.answers.proofs.Slow.LowPart.{one-is-1}
-use Rattle.answers.proofs.Slow.Reduced.{no-power, one-19}
+use Rattle.bounds.proofs.OwnScale.{Nil, nil-bound, on-own}
+use Rattle.slow_path.proofs.Logs.{Logs, near}
+use Rattle.slow_path.proofs.LowPart.{one-is-1}
+use Rattle.fast_path.proofs.Reduced.{no-power, one-19}
 
 -- ---- the f64 sum, by its pattern
 abbrev tiny : Float
@@ -140,12 +140,12 @@ own-size : (m : ℕ) → m ≤ S → m ≤ 2 ^ 53 * (1 * 2 ^ 968)
 unfolding S
 own-size m h = h
 
-z-is : Number (fin true 1 (negsuc 52)) × (mag (fin true 1 (negsuc 52)) ≡ 1 * S) × Bound S (2 ^ 47 + 2 ^ 33) (fin true 1 (negsuc 52))
+z-is : (mag (fin true 1 (negsuc 52)) ≡ 1 * S) × Bound S (2 ^ 47 + 2 ^ 33) (fin true 1 (negsuc 52))
 unfolding fits S
-z-is = (record { held = tt; plain = tt }, refl, tested (2 ^ 47 + 2 ^ 33) (fin true 1 (negsuc 52)) tt)
+z-is = (refl, tested (2 ^ 47 + 2 ^ 33) (fin true 1 (negsuc 52)) tt)
 
-nil-number : Number (fin false 0 (pos 0))
-nil-number = record { held = unfold fits in tt; plain = tt }
+nil : Nil (fin false 0 (pos 0))
+nil = record { number = record { held = unfold fits in tt; plain = tt }; is = refl }
 
 before-logs : (x : Float) → Number x → mag x ≤ S → Logs (fastAt 0x3fefffffffffffff) (sumOfLogs (ofInt binary64 (pos 0)) (pairEntry log2p1CompoundfLog2Inv 19) (log2Poly2 (left x)))
 before-logs x n h =
@@ -153,10 +153,10 @@ before-logs x n h =
     let Y : Bound (1 * 2 ^ 968) (2 ^ 53) x = record { scale = own-scale; number = n; size = own-size (mag x) h } in
     let same = sym (mul-one binary64 x (n .held)) in
     let unity = positive-bound one-is-1 in
-    let b = fast-bounds (nil-bound S unit nil-number refl) (mul-bound (unit-left unit) unity (subst (Bound S 1) same X) tt tt) tt in
-    let c = fast-bounds (nil-bound (1 * 2 ^ 968) own-scale nil-number refl) (mul-bound (unit-left own-scale) unity (subst (Bound (1 * 2 ^ 968) (2 ^ 53)) same Y) tt tt) tt in
+    let b = fast-bounds (nil-bound S unit nil) (mul-bound (unit-left unit) unity (subst (Bound S 1) same X) tt tt) tt in
+    let c = fast-bounds (nil-bound (1 * 2 ^ 968) own-scale nil) (mul-bound (unit-left own-scale) unity (subst (Bound (1 * 2 ^ 968) (2 ^ 53)) same Y) tt tt) tt in
     subst (λ (l : Float). Logs l (sumOfLogs (ofInt binary64 (pos 0)) (pairEntry log2p1CompoundfLog2Inv 19) (log2Poly2 (left x)))) (sym before-one)
-    (near (fin true 1 (negsuc 52)) (z-is .0) 1 (z-is .1) (lit< tt) (z-is .2) (no-power .0) (no-power .1) (one-19 .hi-number) (one-19 .hi-zero) (one-19 .lo-number) (one-19 .lo-zero)
+    (near (on-own 1 (z-is .0) (lit< tt) (at (2 ^ 48) (z-is .1) tt)) (z-is .1) no-power (one-19 .hi) (one-19 .lo)
     (record { hi = at (2 ^ 47 + 2 ^ 36) (b .hi) tt; lo = at 4 (b .lo) tt }) (record { hi = at (3 * 2 ^ 53 + 2 ^ 20) (c .hi) tt; lo = at 16 (c .lo) tt }))
 
 pub lost-logs : (x : Float) → Number x → mag x ≤ S → onePlus x ≡ record { lo = x; hi = one } → Logs (compoundfLog2p1Fast x) (compoundfLog2p1Accurate x) ⊎ Nil (compoundfLog2p1Fast x)

@@ -4,44 +4,45 @@
 use mathlib.Core.Path.{_≡_, refl, sym, ap, ap₂, _∙_, subst}
 use mathlib.Core.Logic.{_⊎_, inl, inr}
 use mathlib.Core.Bool.{Bool, true, false, not, cond, true≢false}
-use Prim.Native.Nat.{ℕ, zero, _+_, _-_, _*_, _/_, _%_, _^_, _≤_, _<_, zero-le}
-use native.Mathlib.Nat.{le-refl, le-trans, le-of-eq, le-of-lt, lt-of-lt-of-le, le-of-mul-le-mul-right, mul-assoc, mul-le-mul, mul-le-mul-right, mul-pos, zero-mul, one-mul, zero-add, add-zero, mul-one, add-le-add, not-le-of-lt}
+use Prim.Native.Nat.{ℕ, zero, _+_, _-_, _*_, _%_, _^_, _≤_, _<_}
+use native.Mathlib.Nat.{le-refl, le-trans, le-of-eq, le-of-lt, lt-of-lt-of-le, mul-assoc, mul-le-mul-right, mul-pos, mul-one, add-le-add, not-le-of-lt}
 use native.Mathlib.Omega.{arith}
 use borrow.Author.Tests.{le-ltb}
 use lib.Dec.{T, leb, ltb, lit≤, lit<}
 use lib.IntN.{pos, negsuc}
 use lib.Ieee.{Float, nan, inf, fin, binary32, binary64, up, down, unlike, size, fits, toBits, ofBits, add, mul, lt, le, eq, isNan, toSigned}
-use lib.Ieee.Fits.{and-r, add-fits, sub-fits, mul-fits}
+use lib.Ieee.Fits.{and-r, sub-fits, mul-fits}
 use lib.Ieee.Scale.{finite}
 use Rattle.floats.specs.Operations.{_⊕_, _⊖_, _⊗_, f64}
 use Rattle.floats.specs.Narrowing.{narrowed, nearestWhole}
 use Rattle.floats.specs.OnBits.{absolute}
 use Rattle.floats.proofs.Laws.Narrow.{narrowed-same}
 use Rattle.floats.proofs.Laws.Order.{clear, or-l}
-use Rattle.floats.proofs.Laws.Sums.{add-turned, whole-distance, SizeAtMost, whole-at-most}
+use Rattle.floats.proofs.Laws.Sums.{whole-distance, SizeAtMost, whole-at-most}
 use Rattle.floats.proofs.Laws.Place.{place}
-use Rattle.floats.proofs.Laws.Units.{exponent, fits-signed, bits-of-value, round-number}
+use Rattle.floats.proofs.Laws.Units.{exponent, bits-of-value, round-number}
 use Rattle.double_double.specs.declared.DoubleDouble.{DoubleDouble}
 use Rattle.double_double.specs.DoubleDouble.{fromExactAdd, quickMultF64}
-use Rattle.compound.specs.Special as Special
-use Rattle.compound.specs.Special.{one, minusOne}
-use Rattle.compound.specs.Fast.{compoundfLog2p1Fast, HasPower}
-use Rattle.compound.specs.Slow.{clampedK, onePlus, compoundfLog2p1Accurate, isNearOne, exp2Away, exp2Accurate, compoundfAccurate}
+use Rattle.special.specs.Special as Special
+use Rattle.special.specs.Special.{one, minusOne}
+use Rattle.fast_path.specs.Fast.{compoundfLog2p1Fast, HasPower}
+use Rattle.slow_path.specs.Slow.{clampedK, onePlus, compoundfLog2p1Accurate, isNearOne, exp2Away, exp2Accurate, compoundfAccurate}
 use Rattle.compound.specs.Route.{Tabled}
-use Rattle.compound.proofs.Index.{between-finite}
-use Rattle.compound.proofs.Scaled.{sum-clear, one-plus-bits}
-use Rattle.compound.proofs.Tests.{second}
-use Rattle.bounds.proofs.Values.{perOne, perOne-pos, plus, less, mag, mag-of, one-side, Number}
-use Rattle.bounds.proofs.Operation.{mul-near, nothing}
+use Rattle.fast_path.proofs.Index.{between-finite}
+use Rattle.fast_path.proofs.OnePlus.{sum-clear, sum-bits}
+use Rattle.floats.proofs.Laws.Tests.{second}
+use Rattle.bounds.proofs.Values.{perOne, plus, less, mag, mag-of, one-side, Number}
 use Rattle.bounds.proofs.Sums.{sides}
-use Rattle.bounds.proofs.Scales.{S, S-pos, one-is, unit, unit-left, Scale, ProductScale, Bound, Bounds, at, onto, mul-bound, mul-limit, quick-f64-bounds, productK, quickF64LoK, tested}
+use Rattle.bounds.proofs.Scales.{S, S-pos, one-is, unit, unit-left, Bound, Bounds, at, onto, mul-bound, quick-f64-bounds, productK, quickF64LoK, tested}
 use Rattle.bounds.proofs.Compared.{Positive, positive-add, le-units, le-of-units, gt-of-not-le, units-in-size}
+use Rattle.bounds.proofs.OwnScale.{Nil, nil-product}
 use Rattle.answers.proofs.Slow.ExpSign.{index-inside, away-clear}
-use Rattle.answers.proofs.Slow.LogCases.{Nil, parted-logs}
-use Rattle.answers.proofs.Slow.Logs.{Logs}
+use Rattle.slow_path.proofs.LogCases.{parted-logs}
+use Rattle.slow_path.proofs.Logs.{Logs}
 use Rattle.answers.proofs.Slow.Lost.{lost-logs}
-use Rattle.answers.proofs.Slow.LowPart.{one-is-1, f32-number, f32-bound, above-minus-one, least-units}
-use Rattle.answers.proofs.Slow.OnePlusParts.{Above, Parted, parted-low, parted-high}
+use Rattle.slow_path.proofs.LowPart.{one-is-1, f32-number, f32-bound}
+use Rattle.slow_path.proofs.OnePlusParts.{Above, above-of, absolute-units, Parted, parted-low, parted-high}
+use Rattle.slow_path.proofs.Exponent.{y-own, through}
 use Rattle.answers.proofs.Signs.Plain.{plain-narrowed}
 use Rattle.answers.proofs.Signs.TableValues.{SlowClear}
 
@@ -53,14 +54,6 @@ tiny-is : Number tiny × (plus tiny ≡ S) × (less tiny ≡ 0)
 unfolding fits S
 tiny-is = (record { held = tt; plain = tt }, refl, refl)
 
--- |x| in units
-absolute-units : (x : Float) → Number x → Number (absolute x) × (plus (absolute x) ≡ mag x) × (less (absolute x) ≡ 0)
-unfolding absolute
-absolute-units nan n = absurd (n .plain)
-absolute-units (inf s) n = absurd (n .plain)
-absolute-units (fin true m e) n = (record { held = fits-signed binary64 true false m e (n .held); plain = tt }, sym (zero-add (m * 2 ^ exponent 1074 e)), refl)
-absolute-units (fin false m e) n = (n, sym (add-zero (m * 2 ^ exponent 1074 e)), refl)
-
 module _ (x : Float) (f : T (fits binary32 x)) (p : T (finite x)) (h : T (lt minusOne x)) where
   num : Number x × (mag x ≤ 2 ^ 128 * perOne)
   num = f32-number x f p
@@ -69,11 +62,10 @@ module _ (x : Float) (f : T (fits binary32 x)) (p : T (finite x)) (h : T (lt min
   on-scale = f32-bound x (num .0) (num .1)
 
   -- where hi is the f64 sum
-  by-parts : (v : DoubleDouble) → onePlus x ≡ v → v .hi ≡ one ⊕ x → (Above x → Parted x v) → Logs (compoundfLog2p1Fast x) (compoundfLog2p1Accurate x) ⊎ Nil (compoundfLog2p1Fast x)
-  by-parts v e is parted =
-      let bits = subst (λ (w : Float). (999 * 2 ^ 52 ≤ toBits binary64 w) × (toBits binary64 w < 1151 * 2 ^ 52)) (ap (λ (d : DoubleDouble). d .hi) e ∙ is) (one-plus-bits x f p h) in
-      let a : Above x = record { number = num .0; size = num .1; above = above-minus-one x (num .0) h; sum = least-units (one ⊕ x) (add-fits binary64 one x) (bits .0) (bits .1) } in
-      parted-logs x (toBits binary64 (one ⊕ x)) refl (bits .0) (bits .1) on-scale (subst (Parted x) (sym e) (parted a))
+  by-parts : (v : DoubleDouble) → onePlus x ≡ v → (Above x → Parted x v) → Logs (compoundfLog2p1Fast x) (compoundfLog2p1Accurate x) ⊎ Nil (compoundfLog2p1Fast x)
+  by-parts v e parted =
+      let bits = sum-bits x f p h in
+      parted-logs x (toBits binary64 (one ⊕ x)) refl (bits .0) (bits .1) on-scale (subst (Parted x) (sym e) (parted (above-of x f p h)))
 
   -- below 2^-53
   below-tiny : le tiny (absolute (narrowed x)) ≡ false → mag x ≤ S
@@ -95,9 +87,9 @@ module _ (x : Float) (f : T (fits binary32 x)) (p : T (finite x)) (h : T (lt min
       split b c g k = unfold onePlus in ap₂ Parts g k
 
       go : (b : Bool) → le x one ≡ b → (c : Bool) → le tiny (absolute (narrowed x)) ≡ c → Logs (compoundfLog2p1Fast x) (compoundfLog2p1Accurate x) ⊎ Nil (compoundfLog2p1Fast x)
-      go true g true k = by-parts (fromExactAdd one x) (split true true g k) (unfold fromExactAdd in refl) (λ a. parted-low x a (subst T (sym g) tt))
+      go true g true k = by-parts (fromExactAdd one x) (split true true g k) (λ a. parted-low x a (subst T (sym g) tt))
       go true g false k = lost-logs x (num .0) (below-tiny k) (split true false g k)
-      go false g c k = by-parts (fromExactAdd x one) (split false c g k) (unfold fromExactAdd in add-turned binary64 x one) (λ a. parted-high x a (le-of-units one x (one-is-1 .number) (num .0) (le-of-lt (gt-of-not-le x one (num .0) (one-is-1 .number) g))))
+      go false g c k = by-parts (fromExactAdd x one) (split false c g k) (λ a. parted-high x a (le-of-units one x (one-is-1 .number) (num .0) (le-of-lt (gt-of-not-le x one (num .0) (one-is-1 .number) g))))
 
 -- ---- t = l × y
 -- it is no NaN: the two tests of the route `edge` say of it what document 01 says
@@ -137,85 +129,10 @@ t-number (fin s m e) f g h =
     below : (p n c : ℕ) → 0 + n < p + c → n ≤ p + c
     below p n c h = omega arith
 
--- so |l| × |y| is at most 151
-product-size : (M T w q : ℕ) → T ≤ 150 * q → w ≤ q → M * 2 ^ 53 ≤ T * 2 ^ 53 + M + w * 2 ^ 52 → M ≤ 151 * q
-product-size M T w q t v h = omega arith
-
 -- ---- the exponent of the accurate path
-large-scale : 512 ≤ S
-unfolding S
-large-scale = lit≤ tt
-
 module _ (l y : Float) (L : DoubleDouble) (logs : Logs l L) (Y : Number y) (y-most : mag y ≤ 2 ^ 128 * perOne) (T-size : mag (l ⊗ y) ≤ 150 * perOne) where
-  y-bound : Bound S (2 ^ 181) y
-  y-bound = f32-bound y Y y-most
-
-  sizes : mag l * mag y ≤ 151 * (perOne * perOne)
-  sizes =
-      let m = mul-near (logs .above .number) Y (mul-limit (unit-left unit) (logs .above) y-bound tt tt) in
-      product-size (mag l * mag y) (mag (l ⊗ y) * perOne) perOne (perOne * perOne) (le-trans (mul-le-mul-right perOne T-size) (le-of-eq (mul-assoc 150 perOne perOne))) (le-trans (le-of-eq (sym (one-mul perOne))) (mul-le-mul-right perOne perOne-pos)) (m .least)
-
-  -- a scale for y
-  ν : ℕ
-  ν = mag y / 2 ^ 53 + 1
-
-  y-scale : Scale ν
-  unfolding ν perOne
-  y-scale = record { positive = one-more (mag y / 2 ^ 53); bounded = le-trans (small (mag y) (2 ^ 1209) (le-trans y-most (lit≤ tt))) (lit≤ tt) }
-    where
-      one-more : (n : ℕ) → 0 < n + 1
-      one-more n = omega arith
-
-      small : (m b : ℕ) → m ≤ b → m / 2 ^ 53 + 1 ≤ b + 1
-      small m b h = omega arith
-
-  y-own : Bound ν (2 ^ 53) y
-  unfolding ν
-  y-own = record { scale = y-scale; number = Y; size = over (mag y) }
-    where
-      over : (m : ℕ) → m ≤ 2 ^ 53 * (m / 2 ^ 53 + 1)
-      over m = omega arith
-
-  -- and for the product: 152
-  product-scale : Scale (152 * S)
-  unfolding S
-  product-scale = record { positive = lit< tt; bounded = lit≤ tt }
-
-  through : ProductScale (logs .μ) ν (152 * S)
-  unfolding ν
-  through = record { scale = product-scale; le = le-trans (joined (logs .μ) (mag y) (mag l) S (logs .size) whole (logs .above .size) (mul-le-mul-right S large-scale)) (le-of-eq (turn S)) }
-    where
-      whole : mag l * mag y ≤ 151 * (S * S) * 2 ^ 106
-      whole = le-trans sizes (le-of-eq (ap₂ (λ (a b : ℕ). 151 * (a * b)) one-is one-is ∙ spread S))
-        where
-          spread : (s : ℕ) → 151 * (s * 2 ^ 53 * (s * 2 ^ 53)) ≡ 151 * (s * s) * 2 ^ 106
-          spread s = omega arith
-
-      turn : (s : ℕ) → 152 * (s * s) ≡ s * (152 * s)
-      turn s = omega arith
-
-      joined : (μ m l s : ℕ) → 2 ^ 53 * μ ≤ l → l * m ≤ 151 * (s * s) * 2 ^ 106 → l ≤ 2 ^ 62 * s → 512 * s ≤ s * s → μ * (m / 2 ^ 53 + 1) ≤ 152 * (s * s)
-      joined μ m l s g h k large =
-          let parts : μ * (m / 2 ^ 53) * 2 ^ 106 ≤ 151 * (s * s) * 2 ^ 106 = le-trans (le-of-eq (gather μ (m / 2 ^ 53))) (le-trans (mul-le-mul g (whole-part m)) h) in
-          le-trans (le-of-eq (one-more μ (m / 2 ^ 53))) (le-trans (add-le-add (le-of-mul-le-mul-right parts (lit< tt)) (le-trans (small μ l s g k) large)) (le-of-eq (together s)))
-        where
-          gather : (μ n : ℕ) → μ * n * 2 ^ 106 ≡ 2 ^ 53 * μ * (n * 2 ^ 53)
-          gather μ n = omega arith
-
-          whole-part : (m : ℕ) → m / 2 ^ 53 * 2 ^ 53 ≤ m
-          whole-part m = omega arith
-
-          small : (μ l s : ℕ) → 2 ^ 53 * μ ≤ l → l ≤ 2 ^ 62 * s → μ ≤ 512 * s
-          small μ l s g k = omega arith
-
-          one-more : (μ n : ℕ) → μ * (n + 1) ≡ μ * n + μ
-          one-more μ n = omega arith
-
-          together : (s : ℕ) → 151 * (s * s) + s * s ≡ 152 * (s * s)
-          together s = omega arith
-
   pub exponent-bounds : Bounds (152 * S) (productK (13 * 2 ^ 52) (2 ^ 53)) (quickF64LoK (13 * 2 ^ 52) (2 ^ 14) (2 ^ 53)) (quickMultF64 L y)
-  exponent-bounds = quick-f64-bounds through (logs .accurate) y-own tt
+  exponent-bounds = quick-f64-bounds (through l y (logs .μ) (logs .size) (logs .above) Y y-most T-size) (logs .accurate) (y-own y Y y-most) tt
 
   pub first-part : mag (quickMultF64 L y .hi) ≤ 1000 * perOne
   first-part =
@@ -317,9 +234,8 @@ zero-bits (fin s m e) f p h = ap (λ (n : ℕ). n * 2 % 2 ^ 64) (bits-of-value b
 
 nil-bits : (l y : Float) → Nil l → Number y → toBits binary64 (l ⊗ y) * 2 % 2 ^ 64 ≡ 0
 nil-bits l y z Y =
-    let none : mag l * mag y ≡ 0 = ap (λ (k : ℕ). k * mag y) (z .is) ∙ zero-mul (mag y) in
-    let m = mul-near (z .number) Y (le-trans (le-of-eq none) zero-le) in
-    zero-bits (l ⊗ y) (m .number .held) (m .number .plain) (nothing (mag (l ⊗ y)) (mag l * mag y) perOne perOne-pos none (m .most))
+    let m = nil-product z Y in
+    zero-bits (l ⊗ y) (m .number .held) (m .number .plain) (m .is)
 
 -- ---- the theorem
 one-plus-f32 : (x : Float) → T (finite x) → T (lt minusOne x) → T (clear (add binary32 one x))

@@ -18,10 +18,10 @@ use Rattle.floats.proofs.Laws.Cast.{part-at-most}
 use Rattle.floats.proofs.Laws.Compare.{at-most}
 use Rattle.floats.proofs.Laws.Order.{or-split}
 use Rattle.floats.proofs.Laws.Place.{min-left}
-use Rattle.compound.specs.Special.{one, minusOne, isZero, isSpecial, isRule}
-use Rattle.compound.specs.Special as Special
-use Rattle.compound.specs.Whole as Whole
-use Rattle.compound.specs.Whole.{isWhole}
+use Rattle.special.specs.Special.{one, minusOne, isZero, isSpecial, isRule}
+use Rattle.special.specs.Special as Special
+use Rattle.whole.specs.Whole as Whole
+use Rattle.whole.specs.Whole.{isWhole}
 use Rattle.compound.specs.Answer.{Outcome, rule, whole}
 use Rattle.compound.specs.Route.{compound, tablePath}
 use Rattle.answers.specs.Claims.{answer, wholeTo16, xInRange}

@@ -16,7 +16,7 @@ use lib.Ieee.Order.{round-mono}
 use Rattle.floats.specs.Narrowing.{narrowed, nearestF32}
 use Rattle.floats.proofs.Laws.Compare.{at-most}
 use Rattle.floats.proofs.Laws.Order.{clear, pattern-mono, round-clear, round-at-most}
-use Rattle.compound.specs.Special as Special
+use Rattle.special.specs.Special as Special
 use Rattle.answers.specs.Exact.{Fraction}
 use Rattle.answers.specs.Claims.{Near}
 use Rattle.answers.proofs.Whole.Factors.{WithinFactors}

@@ -15,10 +15,10 @@ use Rattle.floats.specs.Operations.{_⊕_}
 use Rattle.floats.specs.OnBits.{absolute}
 use Rattle.floats.proofs.Laws.Compare.{at-most}
 use Rattle.floats.proofs.Laws.Units.{fits-digits}
-use Rattle.compound.specs.Special.{one, minusOne}
-use Rattle.compound.specs.Whole.{isTiny}
-use Rattle.compound.proofs.Scaled.{digits-below}
-use Rattle.compound.proofs.Tests.{first}
+use Rattle.special.specs.Special.{one, minusOne}
+use Rattle.whole.specs.Whole.{isTiny}
+use Rattle.fast_path.proofs.OnePlus.{digits-below}
+use Rattle.floats.proofs.Laws.Tests.{first}
 use Rattle.answers.specs.Exact.{onePlus}
 use Rattle.answers.proofs.Whole.Factors.{WithinFactors}
 use Rattle.answers.proofs.Whole.Within.{Within, rounded}

@@ -11,8 +11,8 @@ use lib.IntN.{pos}
 use lib.Pow.{pow-add}
 use lib.Ieee.{Float}
 use Rattle.floats.specs.Operations.{_⊗_}
-use Rattle.compound.specs.Special.{one}
-use Rattle.compound.specs.Whole.{squarings, power}
+use Rattle.special.specs.Special.{one}
+use Rattle.whole.specs.Whole.{squarings, power}
 use Rattle.answers.proofs.Whole.Factors.{equal, power-of-product}
 use Rattle.answers.proofs.Whole.Within.{near, full, Within, InRange, within-more, times}
 

@@ -11,11 +11,11 @@ use lib.Ieee.{Float, nan, inf, fin, binary32, down, lt, le, fits, toUnsigned}
 use Rattle.floats.specs.Operations.{_⊕_, _⊘_}
 use Rattle.floats.specs.Narrowing.{narrowed}
 use Rattle.floats.specs.OnBits.{absolute}
-use Rattle.compound.specs.Special.{one, minusOne}
-use Rattle.compound.specs.Special as Special
-use Rattle.compound.specs.Whole as Whole
-use Rattle.compound.specs.Whole.{isWhole, isTiny}
-use Rattle.compound.proofs.Tiny.{tiny-is-one}
+use Rattle.special.specs.Special.{one, minusOne}
+use Rattle.special.specs.Special as Special
+use Rattle.whole.specs.Whole as Whole
+use Rattle.whole.specs.Whole.{isWhole, isTiny}
+use Rattle.whole.proofs.Tiny.{tiny-is-one}
 use Rattle.answers.specs.Exact as Exact
 use Rattle.answers.specs.Exact.{Fraction, onePlus, exact}
 use Rattle.answers.specs.Claims.{Near, answer, wholeBound}

@@ -14,8 +14,8 @@ use lib.Ieee.Fits.{down-pos}
 use Rattle.floats.specs.Operations.{_⊗_, _⊘_}
 use Rattle.floats.proofs.Laws.Overflow.{halfway, round-stays}
 use Rattle.floats.proofs.Laws.Rounding.{relative-error}
-use Rattle.compound.specs.Special.{one}
-use Rattle.compound.proofs.Tests.{second}
+use Rattle.special.specs.Special.{one}
+use Rattle.floats.proofs.Laws.Tests.{second}
 use Rattle.answers.proofs.Whole.Factors.{WithinFactors, turned, joined, product, looser}
 
 -- one factor of f64

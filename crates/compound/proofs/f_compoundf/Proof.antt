@@ -9,10 +9,10 @@ use lib.Ieee.Bits.{nanBits-is, ofBits-fits}
 use lib.Ieee.Scale.{finite}
 use Rattle.compound.specs.declared.Answer.the-variants.{Rule, Whole}
 use Rattle.compound.specs.Answer.{Outcome, outcome, rule, whole}
-use Rattle.compound.specs.Special.{isRule, special}
-use Rattle.compound.specs.Whole as Whole
+use Rattle.special.specs.Special.{isRule, special}
+use Rattle.whole.specs.Whole as Whole
 use Rattle.compound.specs.Route.{Tabled, tablePath, compound}
-use Rattle.compound.proofs.Rule.{OffRule, off-rule, finite-number}
+use Rattle.special.proofs.Rule.{OffRule, off-rule, finite-number}
 use Rattle.compound.proofs.f_compoundf.Statement.{statement}
 use Rattle.compound.proofs.f_compoundf.Tie as tie
 
@@ -52,9 +52,9 @@ pub f-compoundf-spec : {M : Type 1} → statement M
 f-compoundf-spec =
     tie.close (tie.spec (λ c κs. search needs) (λ c κs. search needs)
     (λ c. by-rule _ _ _ _ (c .before .before .is-rule .ensures) (c .before .if1 .taken) (c .as-compoundf-special .ensures))
-    (λ c. number _ (off _ _ _ (c .before .is-rule .ensures) (c .if1 .left) .x-finite))
-    (λ c. number _ (off _ _ _ (c .before .is-rule .ensures) (c .if1 .left) .y-finite))
     (λ c κs. search needs)
+    (λ c. number _ (off _ _ _ (c .before .before .before .is-rule .ensures) (c .before .before .if1 .left) .x-finite))
+    (λ c. number _ (off _ _ _ (c .before .before .before .is-rule .ensures) (c .before .before .if1 .left) .y-finite))
     (λ c κs. sym (c .before .is-whole .ensures) ∙ c .if2 .taken)
     (λ c. by-whole _ _ _ _ _ (c .before .before .before .before .is-rule .ensures) (c .before .before .is-whole .ensures) (c .before .before .before .if1 .left) (c .before .if2 .taken) (c .whole .ensures))
     (λ c κs. tabled _ _ (off _ _ _ (c .before .before .before .is-rule .ensures) (c .before .before .if1 .left)))

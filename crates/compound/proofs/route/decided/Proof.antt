@@ -4,11 +4,11 @@ use mathlib.Core.Path.{_≡_, sym, _∙_, ap}
 use lib.Ieee.{Float}
 use Rattle.floats.specs.Narrowing.{narrowed}
 use Rattle.compound.specs.declared.Answer.the-variants.{Fast, Slow}
-use Rattle.compound.specs.declared.Exp2.{Exp2}
-use Rattle.compound.specs.declared.Exp2.the-variants.{Rounded, Failed}
+use Rattle.fast_path.specs.declared.Exp2.{Exp2}
+use Rattle.fast_path.specs.declared.Exp2.the-variants.{Rounded, Failed}
 use Rattle.compound.specs.Answer.{outcome}
-use Rattle.compound.specs.Fast.{exp2Fast}
-use Rattle.compound.specs.Slow.{compoundfAccurate}
+use Rattle.fast_path.specs.Fast.{exp2Fast}
+use Rattle.slow_path.specs.Slow.{compoundfAccurate}
 use Rattle.compound.specs.Route.{decided}
 use Rattle.compound.proofs.route.decided.Statement.{statement}
 use Rattle.compound.proofs.route.decided.Tie as tie

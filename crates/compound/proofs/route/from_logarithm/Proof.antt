@@ -12,17 +12,11 @@ use lib.Ieee.Fits.{down-pos}
 use denote.Floats.{passes}
 use Rattle.floats.proofs.Laws.Compare.{Order, less, same, more, order, or-true}
 use Rattle.compound.specs.Answer.{Outcome, edge, outcome}
-use Rattle.compound.specs.Special as Special
-use Rattle.compound.specs.Fast.{exp2Fast}
-use Rattle.compound.specs.Route.{decided, fromLogarithm}
+use Rattle.special.specs.Special as Special
+use Rattle.fast_path.specs.Fast.{exp2Fast}
+use Rattle.compound.proofs.Chosen.{known}
 use Rattle.compound.proofs.route.from_logarithm.Statement.{statement}
 use Rattle.compound.proofs.route.from_logarithm.Tie as tie
-
--- the definition's choice by its three tests
-abbrev chosen : Float → Float → Float → Bool → Bool → Bool → Outcome
-chosen x y t a b d =
-    cond a (record { via = edge; value = Special.zero })
-    (cond (not b) (record { via = edge; value = Special.+infinity }) (cond d (record { via = edge; value = Special.one }) (decided x y (exp2Fast t))))
 
 -- a size that is neither above D nor D is below it
 smaller : (M D : ℕ) → (ltb D M || (eqb M D && true)) ≡ false → M < D
@@ -44,13 +38,6 @@ above (fin false m k) e h = lt→ltb 0 (150 * down k + m * up k * 1) (positive (
     positive : (D M : ℕ) → 0 < D → 0 < 150 * D + M
     positive D M h = omega (arith, h)
 above (fin true m k) e h = lt→ltb (m * up k * 1) (150 * down k) (smaller (m * up k * 1) (150 * down k) e)
-
--- the definition, where the outcomes of its tests are known
-known : (x y t : Float) (a b d : Bool) → le t (fin true 75 (pos 1)) ≡ a → lt t (fin false 1 (pos 7)) ≡ b → leb (toBits binary64 t * 2 % 2 ^ 64) 0x3e6715476ba97f14 ≡ d
-    → chosen x y t a b d ≡ fromLogarithm x y t
-unfolding fromLogarithm
-known x y t a b d e1 e2 e3 = sym (ap (λ (u : Bool). chosen x y t u (lt t (fin false 1 (pos 7))) (leb (toBits binary64 t * 2 % 2 ^ 64) 0x3e6715476ba97f14)) e1
-    ∙ ap (λ (u : Bool). chosen x y t a u (leb (toBits binary64 t * 2 % 2 ^ 64) 0x3e6715476ba97f14)) e2 ∙ ap (chosen x y t a b) e3)
 
 -- a pattern without its sign, doubled, is the pattern shifted left once
 shifted : (n : ℕ) → n % 9223372036854775808 * 2 ≡ n * 2 % 18446744073709551616

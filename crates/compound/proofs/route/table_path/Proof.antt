@@ -1,34 +1,71 @@
--- `table_path` meets its contract: its calls are the definition's, and no NaN is cast. Assumes nothing.
+-- `table_path` meets its contract: what the filter finds is right, and where it finds nothing the source's way is gone. Assumes nothing.
 use borrow.Author.Needs.{needs}
-use mathlib.Core.Path.{_≡_}
-use mathlib.Core.Bool.{not, _&&_}
+use mathlib.Core.Path.{_≡_, sym, _∙_, ap₂, subst}
+use Prim.Native.Nat.{ℕ}
 use lib.Dec.{T}
-use lib.Ieee.{Float, binary32, binary64, fits, isNan}
-use lib.Ieee.Fits.{and-i, fits-widens}
+use lib.Ieee.{Float, binary32, fits, lt, ofBits, nanBits}
 use lib.Ieee.Scale.{finite}
 use Rattle.floats.specs.Operations.{_⊗_}
-use Rattle.compound.specs.Answer.{Outcome}
-use Rattle.compound.specs.Fast.{compoundfLog2p1Fast}
-use Rattle.compound.specs.Route.{fromLogarithm, tablePath}
-use Rattle.compound.proofs.Rule.{finite-number}
+use Rattle.special.specs.Special.{minusOne}
+use Rattle.fast_path.specs.Fast.{compoundfLog2p1Fast}
+use Rattle.filter.specs.declared.Found.{Found}
+use Rattle.filter.specs.Right.{Right}
+use Rattle.compound.specs.Answer.{Outcome, outcome}
+use Rattle.compound.specs.Route.{Tabled, tablePath}
+use Rattle.compound.proofs.Filtered as by
 use Rattle.compound.proofs.route.table_path.Statement.{statement}
 use Rattle.compound.proofs.route.table_path.Tie as tie
 
--- what a cast to f64 asks
-cast : (x : Float) → T (fits binary32 x) → T (finite x) → T (fits binary64 x && not (isNan x))
-cast x f n = and-i (fits binary64 x) (not (isNan x)) (fits-widens x f) (finite-number x n)
+-- x and y are the values of the patterns
+tabled : (m n : ℕ) (x y : Float) → Tabled (ofBits binary32 m) (ofBits binary32 n) → x ≡ ofBits binary32 m → y ≡ ofBits binary32 n → Tabled x y
+tabled m n x y t e d = subst (λ (k : Float). Tabled k y) (sym e) (subst (Tabled (ofBits binary32 m)) (sym d) t)
 
-cast-x : tie.Need-float-to-float-xd
-cast-x c = cast _ (c .before .pre .x-fits) (c .before .pre .x-finite)
+-- after both are widened
+module _ (c : tie.After-widen-bits2) where
+  widened : Tabled (c .before .widen-bits .result) (c .widen-bits2 .result)
+  widened = tabled (c .before .before .args .nx) (c .before .before .args .ny) _ _ (c .before .before .pre) (c .before .widen-bits .ensures) (c .widen-bits2 .ensures)
 
-cast-y : tie.Need-float-to-float-yd
-cast-y c = cast _ (c .before .before .pre .y-fits) (c .before .before .pre .y-finite)
+  told : (o : Outcome) → o ≡ tablePath (c .before .widen-bits .result) (c .widen-bits2 .result) → o ≡ tablePath (ofBits binary32 (c .before .before .args .nx)) (ofBits binary32 (c .before .before .args .ny))
+  told o e = e ∙ ap₂ tablePath (c .before .widen-bits .ensures) (c .widen-bits2 .ensures)
 
--- the results of the calls together are the definition
-together : (x y l : Float) (r : Outcome) → l ≡ compoundfLog2p1Fast x → r ≡ fromLogarithm x y (l ⊗ y) → r ≡ tablePath x y
-unfolding tablePath
-together x y l r e1 e2 = cc
+asked : (x y : Float) → Tabled x y → T (fits binary32 x) × (T (finite x) × (T (lt minusOne x) × (T (fits binary32 y) × T (finite y))))
+asked x y t = (t .x-fits, (t .x-finite, (t .x-above, (t .y-fits, t .y-finite))))
+
+by-fast : tie.Need-returns
+unfolding outcome
+by-fast c =
+    let found = c .before .before .before in
+    told (found .before) _ (by.by-fast _ _ _ (found .filtered .ensures) _ (c .before .v .given .1))
+
+by-slow : tie.Need-returns-2
+unfolding outcome
+by-slow c =
+    let found = c .before .before .before in
+    told (found .before) _ (by.by-slow _ _ _ (found .filtered .ensures) _ (c .before .enum-told .given .1) (c .slow-answer .ensures))
+
+by-low : tie.Need-returns-3
+unfolding outcome ofBits
+by-low c =
+    let found = c .before .before in
+    told (found .before) _ (by.by-low _ _ _ (found .filtered .ensures) (c .enum-told2 .given .1))
+
+by-high : tie.Need-returns-4
+unfolding outcome ofBits
+by-high c =
+    let found = c .before .before in
+    told (found .before) _ (by.by-high _ _ _ (found .filtered .ensures) (c .enum-told3 .given .1))
+
+by-one : tie.Need-returns-5
+unfolding outcome ofBits
+by-one c =
+    let found = c .before .before in
+    told (found .before) _ (by.by-one _ _ _ (found .filtered .ensures) (c .enum-told4 .given .1))
+
+by-writing : tie.Need-returns-6
+by-writing c = told (c .before .before .before .before) _ (c .as-written .ensures)
 
 pub table-path-spec : {M : Type 1} → statement M
+unfolding nanBits
 table-path-spec =
-    tie.close (tie.spec cast-x cast-y (λ c κs. search needs) (λ c κs. search needs) (λ c. together _ _ _ _ (c .before .compoundf-log2p1-fast .ensures) (c .from-logarithm .ensures)))
+    tie.close (tie.spec (λ c κs. search needs) (λ c κs. search needs) (λ c κs. asked _ _ (widened c)) (λ c. search needs) (λ c. search needs) (λ c κs. asked _ _ (widened (c .before .before .before))) (λ c. search needs) (λ c. search needs) (λ c. tt)
+    (λ c. search needs) (λ c. search needs) (λ c κs. widened (c .before .before .before)) by-fast by-slow by-low by-high by-one by-writing)

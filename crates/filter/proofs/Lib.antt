@@ -1,0 +1,13 @@
+-- The laws that the proofs of this crate cite.
+pub mod Limits
+pub mod Relative
+pub mod Factor
+pub mod Logarithm
+pub mod Polynomial
+pub mod Switches
+pub mod Power
+pub mod Accepted
+pub mod Middle
+pub mod Times
+pub mod Edges
+pub mod Settled

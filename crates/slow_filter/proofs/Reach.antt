@@ -1,0 +1,158 @@
+-- t from -149.5 to -128, as the tests leave it: it is between the edges, not 0, and its k is from -150 to -127; and where it is wide of the switches the plain pattern is that of a value from 1/2
+-- to 2. Assumes nothing.
+use mathlib.Core.Path.{_≡_, refl, sym, subst}
+use mathlib.Core.Logic.{_⊎_, inl, inr}
+use mathlib.Core.Bool.{Bool, true, false, true≢false, _&&_}
+use Prim.Native.Nat.{ℕ, _+_, _-_, _*_, _^_, _≤_, _<_}
+use native.Mathlib.Nat.{lt-of-lt-of-le, le-trans}
+use native.Mathlib.Omega.{arith}
+use lib.Dec.{T, lit≤, lit<}
+use lib.IntN.{pos, negsuc}
+use lib.Ieee.{Float, fin, binary64, fits, le, lt, ne, ofBits, toSigned}
+use lib.Ieee.Fits.{sub-fits}
+use lib.Ieee.Scale.{finite}
+use Rattle.floats.specs.Operations.{f64}
+use Rattle.floats.specs.OnBits.{absolute}
+use Rattle.floats.specs.Narrowing.{nearestWhole}
+use Rattle.special.specs.Special.{one}
+use Rattle.fast_path.proofs.Index.{between-finite}
+use Rattle.bounds.proofs.Values.{perOne, plus, less, mag, one-side, Number}
+use Rattle.bounds.proofs.Scales.{S, S-pos, one-is, Bound, tested}
+use Rattle.bounds.proofs.Distances.{Apart, sub-apart}
+use Rattle.bounds.proofs.Nearest.{whole-bound}
+use Rattle.bounds.proofs.Compared.{units-of-le, lt-true}
+use Rattle.filter.specs.Plain.{partOf, restOf}
+use Rattle.filter.proofs.Power.{part-half}
+use Rattle.filter.proofs.Limits.{between-bound, lower-edge, upper-edge, InsideEdges}
+use Rattle.slow_filter.specs.Plain.{wideOfSwitches, inReach}
+use Rattle.slow_filter.specs.Subnormal.{BelowNormal}
+use Rattle.slow_filter.proofs.BelowNormal.{below-normal}
+
+-- ---- the tests, one by one
+four : (a b c d : Bool) → ((a && b) && (c && d)) ≡ true → (a ≡ true) × (b ≡ true) × (c ≡ true) × (d ≡ true)
+four true true true true e = (e, e, e, e)
+four true true true false e = absurd (true≢false (sym e))
+four true true false d e = absurd (true≢false (sym e))
+four true false c d e = absurd (true≢false (sym e))
+four false b c d e = absurd (true≢false (sym e))
+
+pub record Reached (x y t : Float) : Type 0 where
+  pub kept : le (fin false 1 (negsuc 28)) (absolute x) ≡ true
+  pub not-one : ne y one ≡ true
+  pub high : le t (fin true 1 (pos 7)) ≡ true
+  pub low : le (fin true 299 (negsuc 0)) t ≡ true
+
+pub in-parts : (x y t : Float) → inReach x y t ≡ true → Reached x y t
+unfolding inReach
+in-parts x y t e =
+    let o = four (le (fin false 1 (negsuc 28)) (absolute x)) (ne y one) (le t (fin true 1 (pos 7))) (le (fin true 299 (negsuc 0)) t) e in
+    record { kept = o .0; not-one = o .1; high = o .2; low = o .3 }
+
+pub reached : (x y t : Float) → inReach x y t ≡ true → T (le t (fin true 1 (pos 7))) × T (le (fin true 299 (negsuc 0)) t)
+reached x y t e =
+    let r = in-parts x y t e in
+    (subst T (sym (r .high)) tt, subst T (sym (r .low)) tt)
+
+-- ---- t between -149.5 and -128
+module _ (t : Float) (f : T (fits binary64 t)) (high : le t (fin true 1 (pos 7)) ≡ true) (low : le (fin true 299 (negsuc 0)) t ≡ true) where
+  number : Number t
+  number = record { held = f; plain = between-finite (fin true 299 (negsuc 0)) t (fin true 1 (pos 7)) tt tt (subst T (sym low) tt) (subst T (sym high) tt) }
+
+  pub reach-bound : Bound S (150 * 2 ^ 53) t
+  reach-bound = between-bound (150 * 2 ^ 53) least most number low high
+    where
+      least : Bound S (150 * 2 ^ 53) (fin true 299 (negsuc 0))
+      least = unfold fits in tested (150 * 2 ^ 53) (fin true 299 (negsuc 0)) tt
+
+      most : Bound S (150 * 2 ^ 53) (fin true 1 (pos 7))
+      most = unfold fits in tested (150 * 2 ^ 53) (fin true 1 (pos 7)) tt
+
+  ends : Number (fin true 1 (pos 7)) × Number (fin true 299 (negsuc 0)) × (plus (fin true 1 (pos 7)) ≡ 0) × (less (fin true 1 (pos 7)) ≡ 128 * 2 ^ 53 * S) × (plus (fin true 299 (negsuc 0)) ≡ 0) × (less (fin true 299 (negsuc 0)) ≡ 299 * 2 ^ 52 * S)
+  unfolding fits S
+  ends = (record { held = tt; plain = tt }, record { held = tt; plain = tt }, refl, refl, refl, refl)
+
+  -- 128 at least below 0
+  pub reach-below : 128 * 2 ^ 53 * S ≤ less t
+  reach-below = go (plus t) (less t) (plus (fin true 1 (pos 7))) (less (fin true 1 (pos 7))) (128 * 2 ^ 53 * S) (ends .2) (ends .3) (units-of-le number (ends .0) high)
+    where
+      go : (p n q m k : ℕ) → q ≡ 0 → m ≡ k → p + m ≤ q + n → k ≤ n
+      go p n q m k e f h = omega arith
+
+  pub reach-edges : InsideEdges t
+  reach-edges = record {
+    above = lt-true (lower-edge .0) number (low-end (plus t) (less t) (plus (fin true 75 (pos 1))) (less (fin true 75 (pos 1))) (plus (fin true 299 (negsuc 0))) (less (fin true 299 (negsuc 0))) S (lower-edge .1) (lower-edge .2) (ends .4) (ends .5) S-pos (units-of-le (ends .1) number low));
+    below = lt-true number (upper-edge .0) (high-end (plus t) (less t) (plus (fin false 1 (pos 7))) (less (fin false 1 (pos 7))) (plus (fin true 1 (pos 7))) (less (fin true 1 (pos 7))) S (upper-edge .1) (upper-edge .2) (ends .2) S-pos (units-of-le number (ends .0) high));
+  }
+    where
+      low-end : (p n c d q m s : ℕ) → c ≡ 0 → d ≡ 150 * 2 ^ 53 * s → q ≡ 0 → m ≡ 299 * 2 ^ 52 * s → 0 < s → q + n ≤ p + m → c + n < p + d
+      low-end p n c d q m s e1 e2 e3 e4 z h = omega arith
+
+      high-end : (p n c d q m s : ℕ) → d ≡ 0 → c ≡ 128 * 2 ^ 53 * s → q ≡ 0 → 0 < s → p + m ≤ q + n → p + d < c + n
+      high-end p n c d q m s e1 e2 e3 z h = omega arith
+
+  pub reach-negative : 0 < less t
+  reach-negative = lt-of-lt-of-le one-pos reach-below
+    where
+      one-pos : 0 < 128 * 2 ^ 53 * S
+      one-pos = unfold S in lit< tt
+
+  -- and so is what is near it
+  pub reach-apart : {a : Float} → Apart S (2 ^ 24) a t → 0 < less a
+  reach-apart {a} d = go (plus a) (less a) (plus t) (less t) S (one-side t) S-pos reach-below (d .over)
+    where
+      go : (p n q m s : ℕ) → (q ≡ 0) ⊎ (m ≡ 0) → 0 < s → 128 * 2 ^ 53 * s ≤ m → p + m ≤ n + q + 2 ^ 24 * s → 0 < n
+      go p n q m s (inl e) z g h = omega arith
+      go p n q m s (inr e) z g h = omega arith
+
+  -- its nearest whole number is not 0
+  pub reach-whole : perOne ≤ mag (nearestWhole t)
+  reach-whole =
+      let d = sub-apart reach-bound (whole-bound 150 reach-bound) (part-half t number) tt in
+      subst (λ (w : ℕ). w ≤ mag (nearestWhole t)) (sym one-is) (go (plus t) (less t) (plus (nearestWhole t)) (less (nearestWhole t)) S reach-below (one-side t) (d .under))
+    where
+      go : (p n q m s : ℕ) → 128 * 2 ^ 53 * s ≤ n → (p ≡ 0) ⊎ (n ≡ 0) → q + n ≤ m + p + (2 ^ 52 + 301) * s → s * 2 ^ 53 ≤ q + m
+      go p n q m s g (inl e) h = omega arith
+      go p n q m s g (inr e) h = omega arith
+
+  pub reach-some : 0 < mag t
+  reach-some = go (plus t) (less t) (128 * 2 ^ 53 * S) one-pos reach-below
+    where
+      one-pos : 0 < 128 * 2 ^ 53 * S
+      one-pos = unfold S in lit< tt
+
+      go : (p n k : ℕ) → 0 < k → k ≤ n → 0 < p + n
+      go p n k g h = omega arith
+
+  pub reach-k : BelowNormal (toSigned 63 (nearestWhole t))
+  reach-k = below-normal 1 7 (lit≤ tt) reach-bound high
+
+  part-fits : T (fits binary64 (partOf t))
+  unfolding partOf
+  part-fits = sub-fits binary64 t _
+
+  rest-fits : T (fits binary64 (restOf t))
+  unfolding restOf
+  rest-fits = sub-fits binary64 (partOf t) _
+
+  pub wide-bounds : wideOfSwitches (partOf t) (restOf t) ≡ true → Bound S (2 ^ 52 - 2 ^ 26) (partOf t) × Bound S (2 ^ 47 - 2 ^ 26) (restOf t)
+  unfolding wideOfSwitches ofBits
+  wide-bounds e =
+      let o = four (le (partOf t) (f64 0x3fdffffff8000000)) (le (f64 0xbfdffffff8000000) (partOf t)) (le (restOf t) (f64 0x3f8fffff00000000)) (le (f64 0xbf8fffff00000000) (restOf t)) e in (
+        between-bound (2 ^ 52 - 2 ^ 26) part-low part-high (of-tests (partOf t) (f64 0xbfdffffff8000000) (f64 0x3fdffffff8000000) part-fits tt tt (o .1) (o .0)) (o .1) (o .0),
+        between-bound (2 ^ 47 - 2 ^ 26) rest-low rest-high (of-tests (restOf t) (f64 0xbf8fffff00000000) (f64 0x3f8fffff00000000) rest-fits tt tt (o .3) (o .2)) (o .3) (o .2),
+      )
+    where
+      of-tests : (x lo hi : Float) → T (fits binary64 x) → T (finite lo) → T (finite hi) → le lo x ≡ true → le x hi ≡ true → Number x
+      of-tests x lo hi f p q g h = record { held = f; plain = between-finite lo x hi p q (subst T (sym g) tt) (subst T (sym h) tt) }
+
+      part-low : Bound S (2 ^ 52 - 2 ^ 26) (f64 0xbfdffffff8000000)
+      part-low = unfold ofBits fits in tested (2 ^ 52 - 2 ^ 26) (f64 0xbfdffffff8000000) tt
+
+      part-high : Bound S (2 ^ 52 - 2 ^ 26) (f64 0x3fdffffff8000000)
+      part-high = unfold ofBits fits in tested (2 ^ 52 - 2 ^ 26) (f64 0x3fdffffff8000000) tt
+
+      rest-low : Bound S (2 ^ 47 - 2 ^ 26) (f64 0xbf8fffff00000000)
+      rest-low = unfold ofBits fits in tested (2 ^ 47 - 2 ^ 26) (f64 0xbf8fffff00000000) tt
+
+      rest-high : Bound S (2 ^ 47 - 2 ^ 26) (f64 0x3f8fffff00000000)
+      rest-high = unfold ofBits fits in tested (2 ^ 47 - 2 ^ 26) (f64 0x3f8fffff00000000) tt

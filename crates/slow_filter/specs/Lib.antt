@@ -1,0 +1,3 @@
+-- The definitions that the contracts of `slow_filter` cite.
+pub mod Subnormal
+pub mod Plain

@@ -1,0 +1,2 @@
+-- The definitions that the contracts of `slow_path` cite: the table path in double-doubles.
+pub mod Slow

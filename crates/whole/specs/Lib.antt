@@ -1,0 +1,2 @@
+-- The definitions that the contracts of `whole` cite.
+pub mod Whole
