@@ -9,20 +9,22 @@ use borrow.Author.Tests.{leb-true, leb-false}
 use lib.ListN.{length, drop, length-append}
 use lib.Seq.{drop-append-seam}
 use Rattle.lines.specs.Format.{longest}
-use Rattle.lines.specs.Reply.{Told, replyTo}
-use Rattle.lines.proofs.Lengths.{over-long}
-use Rattle.batch.specs.declared.State.{State}
-use Rattle.batch.specs.declared.Tail.{Tail}
-use Rattle.batch.specs.declared.Tallies.{Tallies}
-use Rattle.batch.specs.Complete.{lineFeed, linesFrom, restFrom, lines, rest, feeds}
-use Rattle.batch.specs.Tally.{plus, counts}
-use Rattle.batch.specs.Holding.{hold, carried, broken, fresh}
-use Rattle.batch.specs.Feed.{mostLines, replies, joined, answerLines, added, after, verdict}
+use Rattle.replies.specs.Reply.{Told, replyTo}
+use Rattle.replies.proofs.Lengths.{over-long}
+use Rattle.state.specs.declared.State.{State}
+use Rattle.state.specs.declared.Tail.{Tail}
+use Rattle.state.specs.declared.Tallies.{Tallies}
+use Rattle.scan.specs.Complete.{lineFeed, linesFrom, restFrom, lines, rest, feeds}
+use Rattle.state.specs.Tally.{plus}
+use Rattle.piece.specs.Counts.{counts}
+use Rattle.state.specs.Holding.{hold, carried, broken, fresh}
+use Rattle.piece.specs.Piece.{mostLines, replies, joined, answerLines, added, after}
+use Rattle.batch.specs.Feed.{verdict}
 use Rattle.batch.specs.Series.{adds, due}
-use Rattle.batch.proofs.Cutting.{lines-append, rest-append, feeds-append, feeds-rest, length-lines}
-use Rattle.batch.proofs.Holds.{hold-long, carried-short, carried-long}
-use Rattle.batch.proofs.Unbroken.{unbroken}
-use Rattle.batch.proofs.Replied.{counts-append, total-counts}
+use Rattle.scan.proofs.Cutting.{lines-append, rest-append, feeds-append, feeds-rest, length-lines}
+use Rattle.state.proofs.Holds.{hold-long, carried-short, carried-long}
+use Rattle.state.proofs.Unbroken.{unbroken}
+use Rattle.piece.proofs.Replied.{counts-append, total-counts}
 use Rattle.batch.specs.declared.Verdict.{Verdict}
 use Rattle.batch.specs.declared.Verdict.the-variants.{Accepted, TooManyLines, NoRoom}
 

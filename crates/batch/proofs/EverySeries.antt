@@ -10,18 +10,19 @@ use lib.Seq.{take-at}
 use borrow.Author.Tests.{ltb-false, le-ltb}
 use Rattle.answers.proofs.EveryAnswer.{claims}
 use Rattle.lines.specs.Format.{readLine}
-use Rattle.lines.specs.Reply.{answerTo, replyTo}
+use Rattle.replies.specs.Reply.{answerTo, replyTo}
 use Rattle.lines.proofs.BothWays.{both-ways}
 use Rattle.lines.specs.declared.Line.the-variants.{Pair}
-use Rattle.batch.specs.declared.State.{State}
+use Rattle.state.specs.declared.State.{State}
 use Rattle.batch.specs.declared.Fed.{Fed}
 use Rattle.batch.specs.declared.Verdict.{Verdict}
 use Rattle.batch.specs.declared.Verdict.the-variants.{Accepted, Broken, TooManyLines, NoRoom}
-use Rattle.batch.specs.Complete.{linesFrom, lines, feeds}
-use Rattle.batch.specs.Holding.{fresh}
-use Rattle.batch.specs.Feed.{mostLines, replies, joined, answerLines, added, number, stateAfter, outAfter, fed, Did}
+use Rattle.scan.specs.Complete.{linesFrom, lines, feeds}
+use Rattle.state.specs.Holding.{fresh}
+use Rattle.piece.specs.Piece.{mostLines, replies, joined, answerLines, added}
+use Rattle.batch.specs.Feed.{number, stateAfter, outAfter, fed, Did}
 use Rattle.batch.specs.Series.{Call, Calls, stateOf, isAccepted, isRefused, accepted, said, wrote, wroteAll, adds, due, takes, dueAll, asked, verdicts, Answered, Obeyed, Served, Always, Possible}
-use Rattle.batch.proofs.Replied.{answer-append}
+use Rattle.piece.proofs.Replied.{answer-append}
 use Rattle.batch.proofs.Carrying.{after-all, after-none, verdict-due, after-more, answers-added, lines-more}
 
 -- what a call takes: its piece, or nothing

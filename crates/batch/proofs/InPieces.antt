@@ -8,19 +8,20 @@ use lib.Dec.{eqb}
 use lib.ListN.{length, take, drop, length-append, length-drop, drop-of-length-le, take-append-drop}
 use lib.Seq.{take-at, drop-at, drop-drop, take-all, take-add}
 use borrow.Author.Tests.{le-ltb}
-use Rattle.batch.specs.declared.State.{State}
+use Rattle.state.specs.declared.State.{State}
 use Rattle.batch.specs.declared.Fed.{Fed}
-use Rattle.batch.specs.declared.Tail.{Tail}
-use Rattle.batch.specs.declared.Tallies.{Tallies}
+use Rattle.state.specs.declared.Tail.{Tail}
+use Rattle.state.specs.declared.Tallies.{Tallies}
 use Rattle.batch.specs.declared.Verdict.{Verdict}
 use Rattle.batch.specs.declared.Verdict.the-variants.{Accepted, Broken}
-use Rattle.batch.specs.Complete.{linesFrom, lines, rest, feeds}
-use Rattle.batch.specs.Holding.{hold, fresh}
-use Rattle.batch.specs.Feed.{mostLines, answerLines, added, after, verdict, number, stateAfter, outAfter, fed, Did}
+use Rattle.scan.specs.Complete.{linesFrom, lines, rest, feeds}
+use Rattle.state.specs.Holding.{hold, fresh}
+use Rattle.piece.specs.Piece.{mostLines, answerLines, added, after}
+use Rattle.batch.specs.Feed.{verdict, number, stateAfter, outAfter, fed, Did}
 use Rattle.batch.specs.Series.{Call, Calls, stateOf, isAccepted, isRefused, accepted, said, wrote, wroteAll, adds, due, Obeyed, Served, Always, InPieces}
-use Rattle.batch.proofs.Cutting.{feeds-append}
+use Rattle.scan.proofs.Cutting.{feeds-append}
 use Rattle.batch.proofs.Carrying.{after-all, after-none, verdict-due, after-more, lines-more, answers-added}
-use Rattle.batch.proofs.Replied.{answer-append}
+use Rattle.piece.proofs.Replied.{answer-append}
 use Rattle.batch.proofs.EverySeries.{every-series, due-few, due-fits, due-few-fits, few-fits-due}
 
 -- from a fresh state: what is due, and the answers

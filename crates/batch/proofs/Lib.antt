@@ -1,10 +1,5 @@
 -- The laws of `batch`, and demand 3.
-pub mod Scanned
-pub mod Cutting
-pub mod CarriedOn
-pub mod Holds
-pub mod Replied
-pub mod Unbroken
+pub mod NotFive
 pub mod Carrying
 pub mod EverySeries
 pub mod InPieces

@@ -2,53 +2,18 @@
 use Prim.Native.Nat.{ℕ, _+_}
 use mathlib.Core.Path.{_≡_}
 use mathlib.Core.Bool.{cond}
-use mathlib.Core.List.{List, [], _∷_, _++_, map}
+use mathlib.Core.List.{List, _++_}
 use lib.Dec.{eqb, ltb}
 use lib.ListN.{length, drop}
-use Rattle.lines.specs.Reply.{Told, replyTo, written}
-use Rattle.batch.specs.Complete.{linesFrom, restFrom, feeds}
-use Rattle.batch.specs.Tally.{plus, counts}
-use Rattle.batch.specs.Holding.{hold, carried, broken}
-use Rattle.batch.specs.declared.State.{State}
+use Rattle.scan.specs.Complete.{feeds}
+use Rattle.state.specs.Holding.{broken}
+use Rattle.state.specs.declared.State.{State}
+use Rattle.piece.specs.Piece.{mostLines, answerLines, added, after}
 use Rattle.batch.specs.declared.Verdict.{Verdict}
 use Rattle.batch.specs.declared.Verdict.the-variants.{Accepted, Broken, TooManyLines, NoRoom}
 use Rattle.batch.specs.declared.Fed.{Fed}
 use Rattle.batch.specs.declared.Closed.{Closed}
 use Rattle.batch.specs.declared.Closed.the-variants.{Finished, BrokenState, Unfinished}
-
--- 4,294,967,295
-abbrev pub mostLines : ℕ
-mostLines = 0xffff_ffff
-
--- an answer line is at most so many bytes longer than its line, each with its line feed (`answer-length` in the proofs of `lines`)
-abbrev pub more : ℕ
-more = 5
-
--- what the lines of a list are answered with, "one for each, in order"
-unfoldable pub replies : List (List ℕ) → List Told
-replies ls = map replyTo ls
-
--- answer lines, joined
-unfoldable pub joined : List Told → List ℕ
-joined [] = []
-joined (r ∷ rs) = written r ++ joined rs
-
--- "the answer lines of the complete lines": what is written for a list of lines
-unfoldable pub answerLines : List (List ℕ) → List ℕ
-answerLines ls = joined (replies ls)
-
--- the lines that a piece adds: "its bytes carry on the line that the tail holds"
-unfoldable pub added : State → List ℕ → List (List ℕ)
-added s p = linesFrom (carried (s .tail)) p
-
--- the state after an accepted piece: "what is left after the last line feed is the new tail"
-unfoldable pub after : State → List ℕ → State
-after s p =
-    record {
-      tail = hold (restFrom (carried (s .tail)) p);
-      lines = s .lines + feeds p;
-      tallies = plus (s .tallies) (counts (replies (added s p)));
-    }
 
 -- what feed answers about a piece p and an output of a given length: "feed in the order 5 to 7"
 unfoldable pub verdict : State → List ℕ → ℕ → Verdict

@@ -9,17 +9,17 @@ use lib.Ieee.{binary32, ofBits}
 use Rattle.compound.specs.Route.{compound}
 use Rattle.answers.specs.Claims.{Claims}
 use Rattle.lines.specs.Format.{lineOf, readLine}
-use Rattle.lines.specs.Reply.{answered, replyTo}
+use Rattle.replies.specs.Reply.{answered, replyTo}
 use Rattle.lines.specs.declared.Line.the-variants.{Pair}
-use Rattle.batch.specs.declared.State.{State}
+use Rattle.state.specs.declared.State.{State}
 use Rattle.batch.specs.declared.Fed.{Fed}
 use Rattle.batch.specs.declared.Verdict.{Verdict}
 use Rattle.batch.specs.declared.Verdict.the-variants.{Accepted, Broken, TooManyLines, NoRoom}
-use Rattle.batch.specs.Complete.{lines, rest, feeds}
-use Rattle.batch.specs.Tally.{counts}
-use Rattle.batch.specs.Holding.{hold, fresh}
+use Rattle.scan.specs.Complete.{lines, rest, feeds}
+use Rattle.piece.specs.Counts.{counts}
+use Rattle.state.specs.Holding.{hold, fresh}
 use Rattle.batch.specs.Feed as Feed
-use Rattle.batch.specs.Feed.{mostLines, replies, answerLines}
+use Rattle.piece.specs.Piece.{mostLines, replies, answerLines}
 
 -- "Every call brings a piece and an output space, each of any length and content, empty ones too": one call, with what it returned and the output as it stands then
 pub record Call : Type 0 where

@@ -2,65 +2,24 @@
 // input to the next. `feed` takes a piece and writes the answer lines of the lines that it completes;
 // `close` says whether the input ended with a whole line. What they do is defined in specs/Feed.antt,
 // and what a series of feeds comes to in specs/Series.antt.
-mod answer;
-mod broken;
-mod carry;
-mod held;
-mod measure;
 mod pieces;
-mod scan;
-mod tally;
-mod totals;
 
-use crate::answer::take_piece;
-use crate::broken::is_broken;
-use crate::measure::is_short;
-use crate::measure::too_many;
-use lines::LONGEST;
+pub use piece::MORE;
+pub use piece::MOST_LINES;
+use piece::is_short;
+use piece::take_piece;
+use piece::too_many;
+pub use state::OVER_LONG;
+pub use state::State;
+pub use state::Tail;
+pub use state::Tallies;
+pub use state::fresh;
+use state::is_broken;
+pub use totals::TOTALS;
 pub use totals::write_totals;
 ghost use mathlib.Core.Path.{_≡_};
 ghost use Rattle.batch.specs.Feed.{Did, number, closed, closeNumber};
-ghost use Rattle.batch.specs.Holding as spec;
 ghost use Rattle.batch.specs.Series.{Always, Possible};
-
-// The count that marks an over-long line.
-pub const OVER_LONG: u32 = LONGEST as u32 + 1;
-
-// The most lines that are counted.
-pub const MOST_LINES: u32 = 0xffff_ffff;
-
-// An answer line is at most so many bytes longer than its line, each with its line feed.
-pub const MORE: usize = 5;
-
-// Room for the totals and the end's line: 42 bytes of words, four of `end=`, two line feeds, and eight
-// numbers of at most ten digits.
-pub const TOTALS: usize = 48 + 8 * 10;
-
-// The unfinished line: its bytes, zeros past their count, or zeros alone and the mark.
-#[repr(C)]
-pub struct Tail {
-    pub bytes: [u8; LONGEST],
-    pub count: u32,
-}
-
-// How many lines took each route, and how many were bad.
-#[repr(C)]
-pub struct Tallies {
-    pub rule: u32,
-    pub whole: u32,
-    pub edge: u32,
-    pub fast: u32,
-    pub slow: u32,
-    pub bad: u32,
-}
-
-// What is carried from one piece to the next.
-#[repr(C)]
-pub struct State {
-    pub tail: Tail,
-    pub lines: u32,
-    pub tallies: Tallies,
-}
 
 // What feed answers: how many bytes it wrote, or why it took nothing, 5 to 7 in this order.
 pub enum Verdict {
@@ -81,25 +40,6 @@ pub enum Closed {
     Finished,
     BrokenState,
     Unfinished,
-}
-
-// The state before the first piece.
-pub fn fresh() -> State
-    ensures { λ r. ⌜ r ≡ spec.fresh ⌝ }
-{
-    let tail = held::empty();
-    State {
-        tail,
-        lines: 0,
-        tallies: Tallies {
-            rule: 0,
-            whole: 0,
-            edge: 0,
-            fast: 0,
-            slow: 0,
-            bad: 0,
-        },
-    }
 }
 
 // Takes a piece of input, and writes the answer lines of the lines whose line feed lies in it to the
@@ -126,7 +66,12 @@ pub fn feed(state: State, piece: &[u8], out: &mut [u8]) -> Fed
             verdict: Verdict::NoRoom,
         };
     }
-    take_piece(state, piece, out)
+    let taken = take_piece(state, piece, out);
+    let after = taken.state;
+    Fed {
+        state: after,
+        verdict: Verdict::Accepted(taken.wrote),
+    }
 }
 
 // The number of a feed's answer: 5 to 7 for a refusal, 0 for an accepted feed.

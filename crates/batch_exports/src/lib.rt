@@ -8,11 +8,11 @@ use batch::Verdict;
 ghost use mathlib.Core.Path.{_≡_};
 ghost use mathlib.Core.List.{_++_};
 ghost use lib.ListN.{length};
-ghost use Rattle.lines.specs.Bytes.{put};
-ghost use Rattle.batch.specs.Holding.{fresh};
+ghost use Rattle.text.specs.Bytes.{put};
+ghost use Rattle.state.specs.Holding.{fresh};
 ghost use Rattle.batch.specs.Feed.{fed, verdict, outAfter, closed, closeNumber};
 ghost use Rattle.batch.specs.Series.{said};
-ghost use Rattle.batch.specs.Totals.{totals, endLine};
+ghost use Rattle.totals.specs.Totals.{totals, endLine};
 ghost use Rattle.batch_exports.specs.Handed.{handed};
 
 // What a feed hands to Rust and C: the state, the number of a refusal or 0, and how many bytes were

@@ -14,7 +14,7 @@ use batch::Tallies;
 use lines::LONGEST;
 ghost use Prim.Native.Nat.{_≤_, _<_};
 ghost use Rattle.lines.specs.Format.{longest};
-ghost use Rattle.batch.specs.Holding.{overLong};
+ghost use Rattle.state.specs.Holding.{overLong};
 ghost use Rattle.cuts.specs.Limits.{room};
 
 // The last place of a tail.

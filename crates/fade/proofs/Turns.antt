@@ -8,13 +8,13 @@ use mathlib.Core.List.{List, [], _∷_, _++_}
 use lib.Dec.{eqb}
 use lib.IntN.{ℤ, pos, negsuc}
 use lib.ListN.{length, take}
-use Rattle.batch.specs.declared.State.{State}
+use Rattle.state.specs.declared.State.{State}
 use Rattle.batch.specs.declared.Verdict.{Verdict}
 use Rattle.batch.specs.declared.Verdict.the-variants.{Accepted, Broken, TooManyLines, NoRoom}
-use Rattle.batch.specs.Holding.{fresh, broken}
+use Rattle.state.specs.Holding.{fresh, broken}
 use Rattle.batch.specs.Feed.{verdict, number, fed, Did, closed, closeNumber}
 use Rattle.batch.specs.Series.{Call, Calls, stateOf, isAccepted}
-use Rattle.batch.proofs.Unbroken.{fed-unbroken}
+use Rattle.batch.proofs.NotFive.{fed-unbroken}
 use Rattle.batch.proofs.InPieces.{calls-more, state-more}
 use Rattle.fade.specs.declared.Next.{Next}
 use Rattle.fade.specs.declared.Next.the-variants.{Read, Totals, Nothing}

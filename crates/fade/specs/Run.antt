@@ -6,12 +6,12 @@ use mathlib.Core.Logic.{_⊎_}
 use mathlib.Core.List.{List, [], _∷_, _++_}
 use lib.IntN.{ℤ, pos, negsuc}
 use lib.ListN.{length, take}
-use Rattle.batch.specs.declared.State.{State}
+use Rattle.state.specs.declared.State.{State}
 use Rattle.batch.specs.declared.Verdict.{Verdict}
 use Rattle.batch.specs.declared.Verdict.the-variants.{Accepted, Broken, TooManyLines, NoRoom}
-use Rattle.batch.specs.Holding.{fresh}
+use Rattle.state.specs.Holding.{fresh}
 use Rattle.batch.specs.Feed.{verdict, fed, outAfter, Did, closed, closeNumber}
-use Rattle.batch.specs.Totals.{totals, endLine}
+use Rattle.totals.specs.Totals.{totals, endLine}
 use Rattle.batch.specs.Series.{Call, Calls, stateOf, isAccepted}
 use Rattle.fade.specs.declared.Next.{Next}
 use Rattle.fade.specs.declared.Next.the-variants.{Read, Totals, Nothing}

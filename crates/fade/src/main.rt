@@ -17,8 +17,9 @@ ghost use mathlib.Core.Bool.{false};
 ghost use Prim.Native.Nat.{ℕ, _+_, _*_, _≤_};
 ghost use lib.IntN.{ℤ};
 ghost use lib.ListN.{length, take};
-ghost use Rattle.batch.specs.Feed.{more, closed, closeNumber};
-ghost use Rattle.batch.specs.Holding.{overLong, broken};
+ghost use Rattle.piece.specs.Piece.{more};
+ghost use Rattle.batch.specs.Feed.{closed, closeNumber};
+ghost use Rattle.state.specs.Holding.{overLong, broken};
 ghost use Rattle.fade.specs.Run.{OrNothing, AfterFeed, Answered, AfterRead, Run, lastLines};
 
 // The most bytes that are read at once.

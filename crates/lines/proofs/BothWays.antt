@@ -10,14 +10,15 @@ use native.Mathlib.Numerals.{add-one}
 use lib.Dec.{eqb, ltb, lit<, lit≤}
 use lib.ListN.{length, take, drop, getD, length-append, take-append-drop, drop-of-length-le}
 use lib.Seq.{take-at, drop-at, getD-at, getD-drop, drop-drop, drop-cons, drop-append-add}
-use Rattle.lines.specs.Bytes.{begins, all, leading}
-use Rattle.lines.specs.Digits.{places, decimal, hex, isDecimal, isHex, value}
+use Rattle.text.specs.Bytes.{begins, all, leading}
+use Rattle.text.specs.Digits.{places, decimal, hex, isDecimal, isHex, value}
 use Rattle.lines.specs.Fields.{keyOf}
 use Rattle.lines.specs.Format.{longest, largestId, idKey, xKey, yKey, space, lineOf, InRange, Format}
 use Rattle.lines.specs.Format.{idDigits, isD, hasId, afterId, hexDigits, hasHex, hasX, afterX, hasY, readLine}
 use Rattle.lines.specs.declared.Line.the-variants.{Pair}
-use Rattle.lines.proofs.Numerals.{both, sixteen, length-decimal, length-hex, all-decimal, all-hex, places-monotone, value-below}
-use Rattle.lines.proofs.Numerals.{is-d, decimal-is-d, decimal-value, value-decimal, value-hex, hex-value}
+use Rattle.text.proofs.Numerals.{both, sixteen, length-decimal, length-hex, all-decimal, all-hex, places-monotone, value-below}
+use Rattle.lines.proofs.Ids.{is-d, decimal-is-d, decimal-value, value-decimal}
+use Rattle.text.proofs.Numerals.{value-hex, hex-value}
 use Rattle.lines.proofs.Reading.{inside}
 
 -- A line of the format is accepted.

@@ -1,16 +1,10 @@
--- Document 01, "Batch lines and the reader's state": lines as the definitions read and answer them, computed. Assumes nothing.
-use mathlib.Core.Path.{_≡_, refl, ap, _∙_}
+-- Document 01, "Batch lines and the reader's state": lines as the definitions read them, computed. Assumes nothing.
+use mathlib.Core.Path.{_≡_, refl}
 use mathlib.Core.List.{List, [], _∷_}
 use Prim.Native.Nat.{ℕ}
-use lib.Ieee.{nan, isNan, ofBits, toBits}
-use lib.ListN.{getD}
-use Rattle.compound.specs.Answer.{whole, Outcome, word}
-use Rattle.compound.proofs.Examples.{starred-pairs}
-use Rattle.lines.specs.Bytes.{begins, all, leading}
-use Rattle.lines.specs.Digits.{glyph, digits, places, decimal, hex, isDecimal, isHex, digitValue, valueFrom, value}
+use Rattle.text.specs.Bytes.{begins, all, leading}
+use Rattle.text.specs.Digits.{isDecimal, isHex, digitValue, valueFrom, value}
 use Rattle.lines.specs.Format.{idDigits, isD, hasId, afterId, hexDigits, hasHex, hasX, afterX, hasY, readLine}
-use Rattle.lines.specs.Reply.{answered, answerTo, replyTo, answerPattern, ending, written}
-use Rattle.lines.specs.declared.Line.{Line}
 use Rattle.lines.specs.declared.Line.the-variants.{Pair, TooLong, NoId, NoX, NoY}
 
 -- `id=7 x=3f000000 y=40000000`
@@ -46,11 +40,3 @@ too-long = refl
 pub empty-line : readLine [] ≡ NoId
 unfolding begins hasId readLine
 empty-line = refl
-
--- 1.5^2 is 2.25: it is answered with `id=7 r=40100000 via=whole` and a feed
-pub seven-answered :
-    written (replyTo seven) ≡
-    105 ∷ 100 ∷ 61 ∷ 55 ∷ 32 ∷ 114 ∷ 61 ∷ 52 ∷ 48 ∷ 49 ∷ 48 ∷ 48 ∷ 48 ∷ 48 ∷ 48 ∷ 32 ∷ 118 ∷ 105 ∷ 97 ∷ 61 ∷ 119 ∷ 104 ∷ 111 ∷ 108 ∷ 101 ∷ 10 ∷ []
-unfolding ofBits toBits isNan glyph digits places decimal hex word answerTo replyTo answerPattern ending written
-seven-answered =
-    ap (λ (r : Line). written (answerTo r)) seven-read ∙ ap (λ (o : Outcome). written (answered 7 o)) (ap (λ (l : List Outcome). getD l 6 (record { via = whole; value = nan })) starred-pairs)

@@ -1,10 +1,5 @@
--- Laws that belong to no one function: what the proofs of this crate, and of those above it, cite.
+-- The laws of `lines`, and lines as the definitions read them.
 pub mod Examples
-pub mod Put
-pub mod Wrote
-pub mod Numerals
-pub mod Eight
+pub mod Ids
 pub mod Reading
 pub mod BothWays
-pub mod Lengths
-pub mod Patterns

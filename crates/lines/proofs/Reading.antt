@@ -9,7 +9,7 @@ use native.Mathlib.Numerals.{add-one}
 use lib.Dec.{eqb, ltb}
 use lib.ListN.{length, getD, drop, drop-of-length-le, List·getD-eq-default}
 use lib.Seq.{drop-cons}
-use Rattle.lines.specs.Bytes.{begins, leading}
+use Rattle.text.specs.Bytes.{begins, leading}
 use Rattle.lines.specs.Fields.{field, keyOf}
 use Rattle.lines.specs.Format.{idKey}
 use Rattle.lines.specs.declared.read.Field.the-variants.{Read, Missing}

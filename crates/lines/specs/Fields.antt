@@ -4,9 +4,9 @@ use Prim.Native.Nat.{ℕ, _+_}
 use mathlib.Core.Bool.{Bool, _&&_, cond}
 use mathlib.Core.List.{List, [], _∷_}
 use lib.Dec.{eqb, leb}
-use lib.ListN.{length, take, drop}
-use Rattle.lines.specs.Bytes.{all, leading}
-use Rattle.lines.specs.Digits.{isDecimal, isHex, value}
+use lib.ListN.{length, drop}
+use Rattle.text.specs.Bytes.{all, leading, eightAt}
+use Rattle.text.specs.Digits.{isDecimal, isHex, value}
 use Rattle.lines.specs.Format.{largestId, idKey, idDigits, isD, hasId, hexDigits, hasHex}
 use Rattle.lines.specs.declared.read.Field.{Field}
 use Rattle.lines.specs.declared.read.Field.the-variants.{Read, Missing}
@@ -28,10 +28,7 @@ dAt at l = field (isD (digitsAt at l)) (value 10 (digitsAt at l)) (at + length (
 abbrev pub idOf : List ℕ → Field
 idOf l = field (hasId l) (value 10 (idDigits l)) (length idKey + length (idDigits l) + 1)
 
--- the eight bytes from a place on, whether they are an H, and H
-abbrev pub eightAt : ℕ → List ℕ → List ℕ
-eightAt at l = take 8 (drop at l)
-
+-- whether bytes are an H, and the H at a place
 abbrev pub isH : List ℕ → Bool
 isH hs = eqb (length hs) 8 && all isHex hs
 

@@ -5,8 +5,8 @@ use mathlib.Core.Bool.{Bool, not, _&&_, _||_, cond}
 use mathlib.Core.List.{List, [], _∷_, _++_}
 use lib.Dec.{eqb, ltb, leb}
 use lib.ListN.{length, take, drop, getD}
-use Rattle.lines.specs.Bytes.{begins, all, leading}
-use Rattle.lines.specs.Digits.{decimal, hex, isDecimal, isHex, value}
+use Rattle.text.specs.Bytes.{begins, all, leading}
+use Rattle.text.specs.Digits.{decimal, hex, isDecimal, isHex, value}
 use Rattle.lines.specs.declared.Line.{Line}
 use Rattle.lines.specs.declared.Line.the-variants.{Pair, TooLong, NoId, NoX, NoY}
 

@@ -1,6 +1,3 @@
--- Document 01, "Batch lines and the reader's state": the lines, read and written.
-pub mod Bytes
-pub mod Digits
+-- Document 01, "Batch lines and the reader's state": the input lines.
 pub mod Format
 pub mod Fields
-pub mod Reply

@@ -2,16 +2,13 @@
 use crate::LARGEST_ID;
 use crate::LONGEST;
 use crate::Line;
-use crate::digits::hex_value;
-use crate::digits::is_hex;
+use text::all_hex;
+use text::hex_number;
 ghost use mathlib.Core.Path.{_≡_};
-ghost use mathlib.Core.Bool.{true};
 ghost use Prim.Native.Nat.{_+_, _≤_, _<_};
 ghost use lib.Dec.{eqb};
 ghost use lib.ListN.{length, getD};
-ghost use Rattle.lines.specs.Bytes.{all};
-ghost use Rattle.lines.specs.Digits.{isHex, value};
-ghost use Rattle.lines.specs.Fields.{numberAt, dAt, idOf, eightAt, hAt, hexAt};
+ghost use Rattle.lines.specs.Fields.{numberAt, dAt, idOf, hAt, hexAt};
 ghost use Rattle.lines.specs.Format.{readLine};
 
 // What reading a field finds: its value and the place after it.
@@ -97,32 +94,6 @@ fn read_id(line: &[u8]) -> Field
     } else {
         Field::Missing
     }
-}
-
-// Whether the eight bytes at a place are hexadecimal digits. All eight are looked at, with no branch
-// on any: a processor cannot predict which digits are letters.
-fn all_hex(line: &[u8], from: usize) -> bool
-    requires { ⌜ from + 8 ≤ length (now line) ⌝ }
-    ensures { λ r. ⌜ r ≡ all isHex (eightAt from (now (line .entry))) ⌝ }
-{
-    let mut hex = true;
-    for i in 0..8usize {
-        hex = hex & is_hex(line[from + i]);
-    }
-    hex
-}
-
-// The number that the eight hexadecimal digits at a place say.
-fn hex_number(line: &[u8], from: usize) -> u32
-    requires { ⌜ from + 8 ≤ length (now line) ⌝ }
-    requires { ⌜ all isHex (eightAt from (now line)) ≡ true ⌝ }
-    ensures { λ r. ⌜ r ≡ value 16 (eightAt from (now (line .entry))) ⌝ }
-{
-    let mut n = 0;
-    for i in 0..8usize {
-        n = n * 16 + hex_value(line[from + i]);
-    }
-    n
 }
 
 // The H at a place.

@@ -9,16 +9,18 @@ use mathlib.Core.Bool.{Bool, true, false}
 use mathlib.Core.List.{List, _++_, map}
 use lib.Dec.{ltb}
 use lib.ListN.{length, drop, length-map}
-use Rattle.lines.specs.Bytes.{put}
+use Rattle.text.specs.Bytes.{put}
 use Rattle.lines.specs.Format.{longest}
-use Rattle.batch.specs.declared.State.{State}
+use Rattle.state.specs.declared.State.{State}
 use Rattle.batch.specs.declared.Fed.{Fed}
 use Rattle.batch.specs.declared.Verdict.{Verdict}
 use Rattle.batch.specs.declared.Verdict.the-variants.{Accepted, Broken, TooManyLines, NoRoom}
-use Rattle.batch.specs.Complete.{linesFrom, feeds}
-use Rattle.batch.specs.Holding.{carried, broken}
-use Rattle.batch.specs.Feed.{mostLines, answerLines, added, after, verdict, stateAfter, outAfter, fed, Did}
-use Rattle.batch.proofs.Unbroken.{tail-sound, adds-up}
+use Rattle.scan.specs.Complete.{linesFrom, feeds}
+use Rattle.state.specs.Holding.{carried, broken}
+use Rattle.piece.specs.declared.Taken.{Taken}
+use Rattle.piece.specs.Piece.{mostLines, answerLines, added, after}
+use Rattle.batch.specs.Feed.{verdict, stateAfter, outAfter, fed, Did}
+use Rattle.state.proofs.Unbroken.{tail-sound, adds-up}
 use Rattle.batch.proofs.feed.Statement.{statement}
 use Rattle.batch.proofs.feed.Tie as tie
 
@@ -59,12 +61,15 @@ module _ (s : State) (p out : List ℕ) where
         unfolding verdict
         passed = rw (h, g, k)
 
-        taken : (r : Fed) (out′ : List ℕ) → r ≡ record { state = after s p; verdict = Accepted (length (answers s p)) } → out′ ≡ put out 0 (answers s p) → Did s p out r out′
+        taken : (r : Taken) (out′ : List ℕ) → r ≡ record { state = after s p; wrote = length (answers s p) } → out′ ≡ put out 0 (answers s p)
+            → Did s p out (record { state = r .state; verdict = Accepted (r .wrote) }) out′
         unfolding fed stateAfter outAfter put
         taken r out′ e f =
+            let g : _≡_ {A = Fed} (record { state = r .state; verdict = Accepted (r .wrote) }) (record { state = after s p; verdict = Accepted (length (answers s p)) }) =
+            ap (λ (k : Taken). record { state = k .state; verdict = Accepted (k .wrote) }) e in
             record {
-              result = e ∙ ap (λ (v : Verdict). record { state = stateAfter v s p; verdict = v }) passed;
-              output = f ∙ ap (λ (n : ℕ). answers s p ++ drop n out) (zero-add (length (answers s p))) ∙ ap (λ (k : Fed). outAfter (k .verdict) s p out) (sym e);
+              result = g ∙ ap (λ (v : Verdict). record { state = stateAfter v s p; verdict = v }) passed;
+              output = f ∙ ap (λ (n : ℕ). answers s p ++ drop n out) (zero-add (length (answers s p))) ∙ ap (λ (k : Fed). outAfter (k .verdict) s p out) (sym g);
             }
 
 -- whether the output is short, in the words of `added`
@@ -96,7 +101,7 @@ take-piece-requires : tie.Need-take-piece-requires
 take-piece-requires c κs = (tail-sound (c .before .before .before .before .before .before .before .before .before .before .args .state) (sym (c .before .before .before .before .before .before .before .is-broken .ensures) ∙ c .before .before .before .before .before .before .if1 .left) (places (c .before .before .before .before .before .before .before .before .before .before .args .state) (c .before .before .before .before .before .before .before .before .before .before .good .0 .1 .1 .0 .1 .1 .0 .1 .0 .1)), (adds-up (c .before .before .before .before .before .before .before .before .before .before .args .state) (sym (c .before .before .before .before .before .before .before .is-broken .ensures) ∙ c .before .before .before .before .before .before .if1 .left), (ltb-false _ _ (sym (c .before .before .before .before .before .too-many .ensures) ∙ c .before .before .before .before .if2 .left), ltb-false _ _ (shorter _ _ _ _ (c .before .before .is-short .ensures) (c .before .if3 .left)))))
 
 returns-4 : tie.Need-returns-4
-returns-4 c = taken _ _ _ (sym (c .before .before .before .before .before .before .before .before .before .before .is-broken .ensures) ∙ c .before .before .before .before .before .before .before .before .before .if1 .left) (sym (c .before .before .before .before .before .before .before .before .too-many .ensures) ∙ c .before .before .before .before .before .before .before .if2 .left) (shorter _ _ _ _ (c .before .before .before .before .before .is-short .ensures) (c .before .before .before .before .if3 .left)) _ _ (c .before .before .take-piece .ensures .0) (c .before .before .take-piece .ensures .1)
+returns-4 c = taken _ _ _ (sym (c .before .before .before .before .before .before .before .before .before .before .before .is-broken .ensures) ∙ c .before .before .before .before .before .before .before .before .before .before .if1 .left) (sym (c .before .before .before .before .before .before .before .before .before .too-many .ensures) ∙ c .before .before .before .before .before .before .before .before .if2 .left) (shorter _ _ _ _ (c .before .before .before .before .before .before .is-short .ensures) (c .before .before .before .before .before .if3 .left)) _ _ (c .before .before .before .take-piece .ensures .0) (c .before .before .before .take-piece .ensures .1)
 
 pub feed-spec : {M : Type 1} → statement M
 feed-spec =

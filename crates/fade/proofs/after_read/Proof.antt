@@ -16,9 +16,10 @@ use mir.Syntax.{w64}
 use mir.Val.{SFits, toZ, ofZ}
 use mir.ValLaws.{toZ-ofZ}
 use Rattle.io.specs.Counts.{clamped}
-use Rattle.batch.specs.declared.State.{State}
-use Rattle.batch.specs.Holding.{overLong}
-use Rattle.batch.specs.Feed.{more, closed, closeNumber}
+use Rattle.state.specs.declared.State.{State}
+use Rattle.state.specs.Holding.{overLong}
+use Rattle.piece.specs.Piece.{more}
+use Rattle.batch.specs.Feed.{closed, closeNumber}
 use Rattle.fade.specs.declared.Next.the-variants.{Read, Totals}
 use Rattle.fade.specs.declared.Turn.{Turn}
 use Rattle.fade.specs.Run.{OrNothing, Answered, Unfed, AfterRead}

@@ -8,7 +8,7 @@ use mathlib.Core.Logic.{_⊎_, ⊎-elim}
 use mathlib.Core.List.{[]}
 use lib.ListN.{length}
 use denote.Enum.Declared.{tagOf}
-use Rattle.batch.specs.Holding.{broken}
+use Rattle.state.specs.Holding.{broken}
 use Rattle.batch.proofs.Carrying.{after-none, not-broken}
 use Rattle.fade.specs.declared.Next.{Next}
 use Rattle.fade.specs.declared.Next.the-variants.{Read, Totals, Nothing}

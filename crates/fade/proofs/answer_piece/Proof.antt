@@ -7,16 +7,17 @@ use mathlib.Core.Bool.{Bool, true, false, cond}
 use mathlib.Core.List.{List}
 use lib.Dec.{ltb}
 use lib.ListN.{length}
-use Rattle.batch.specs.declared.State.{State}
+use Rattle.state.specs.declared.State.{State}
 use Rattle.batch.specs.declared.Verdict.{Verdict}
 use Rattle.batch.specs.declared.Verdict.the-variants.{Accepted, Broken, TooManyLines, NoRoom}
 use Rattle.batch.specs.declared.Fed.{Fed}
-use Rattle.batch.specs.Complete.{feeds}
-use Rattle.batch.specs.Holding.{broken}
-use Rattle.batch.specs.Feed.{mostLines, answerLines, added, verdict, outAfter, fed, Did}
+use Rattle.scan.specs.Complete.{feeds}
+use Rattle.state.specs.Holding.{broken}
+use Rattle.piece.specs.Piece.{mostLines, answerLines, added}
+use Rattle.batch.specs.Feed.{verdict, outAfter, fed, Did}
 use Rattle.batch.specs.Series.{said}
 use Rattle.batch.proofs.Room.{never-seven}
-use Rattle.batch.proofs.Unbroken.{feed-not-five}
+use Rattle.batch.proofs.NotFive.{feed-not-five}
 use Rattle.fade.specs.declared.Next.{Next}
 use Rattle.fade.specs.Run.{AfterFeed, Answered}
 use Rattle.fade.proofs.answer_piece.Statement.{statement}

@@ -2,7 +2,7 @@
 use borrow.Author.Needs.{needs}
 use mathlib.Core.Path.{sym, ap, _∙_}
 use Rattle.batch.specs.Feed.{closeNumber}
-use Rattle.batch.proofs.Unbroken.{close-not-five}
+use Rattle.batch.proofs.NotFive.{close-not-five}
 use Rattle.fade.specs.declared.Next.the-variants.{Totals}
 use Rattle.fade.proofs.at_end.Statement.{statement}
 use Rattle.fade.proofs.at_end.Tie as tie

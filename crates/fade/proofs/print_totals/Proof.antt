@@ -8,11 +8,11 @@ use mathlib.Core.List.{List, [], _++_}
 use lib.ListN.{length, take, drop}
 use lib.Seq.{length-take-le, take-at}
 use denote.Enum.Declared.{tagOf}
-use Rattle.lines.specs.Bytes.{put}
-use Rattle.lines.proofs.Put.{length-put}
-use Rattle.batch.specs.declared.State.{State}
-use Rattle.batch.specs.Totals.{totals, endLine}
-use Rattle.batch.proofs.Room.{totals-most}
+use Rattle.text.specs.Bytes.{put}
+use Rattle.text.proofs.Put.{length-put}
+use Rattle.state.specs.declared.State.{State}
+use Rattle.totals.specs.Totals.{totals, endLine}
+use Rattle.totals.proofs.Room.{totals-most}
 use Rattle.fade.specs.declared.Next.{Next}
 use Rattle.fade.specs.declared.Next.the-variants.{Read, Totals, Nothing}
 use Rattle.fade.specs.Run.{lastLines}

@@ -8,7 +8,7 @@ use lib.ListN.{length}
 use Rattle.batch.specs.Feed.{number}
 use Rattle.batch.specs.Series.{Call, isRefused}
 use Rattle.batch.proofs.InPieces.{Come, begun, come-length, come-within, refused-length, refused-pieces, come-on, all-pieces}
-use Rattle.batch.proofs.Cutting.{to-end}
+use Rattle.scan.proofs.Cutting.{to-end}
 use Rattle.batch.proofs.pieces.feed_in_pieces.Statement.{statement}
 use Rattle.batch.proofs.pieces.feed_in_pieces.Tie as tie
 

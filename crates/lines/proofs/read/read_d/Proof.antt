@@ -11,11 +11,11 @@ use native.Mathlib.Nat.{add-zero}
 use lib.Dec.{eqb, ltb, leb}
 use lib.ListN.{length, getD, drop, length-drop}
 use lib.Seq.{getD-drop}
-use Rattle.lines.specs.Digits.{isDecimal, value}
+use Rattle.text.specs.Digits.{isDecimal, value}
 use Rattle.lines.specs.Fields.{digitsAt, dAt}
 use Rattle.lines.specs.Format.{isD, largestId}
 use Rattle.lines.specs.declared.read.Field.the-variants.{Read, Missing}
-use Rattle.lines.proofs.Numerals.{d-is}
+use Rattle.lines.proofs.Ids.{d-is}
 use Rattle.lines.proofs.Reading.{Found, found, missing, there, not-there, leading-length, leading-first}
 use Rattle.lines.proofs.read.read_d.Statement.{statement}
 use Rattle.lines.proofs.read.read_d.Tie as tie

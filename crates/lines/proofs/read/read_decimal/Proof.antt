@@ -8,12 +8,12 @@ use native.Mathlib.Omega.{arith}
 use native.Mathlib.Numerals.{add-one}
 use lib.ListN.{length, getD, drop-of-length-le}
 use lib.Seq.{drop-cons}
-use Rattle.lines.specs.Bytes.{leading}
-use Rattle.lines.specs.Digits.{isDecimal, value, valueFrom}
+use Rattle.text.specs.Bytes.{leading}
+use Rattle.text.specs.Digits.{isDecimal, value, valueFrom}
 use Rattle.lines.specs.Fields.{field, digitsAt, numberAt}
 use Rattle.lines.specs.Format.{largestId}
 use Rattle.lines.specs.declared.read.Field.the-variants.{Read, Missing}
-use Rattle.lines.proofs.Numerals.{low-value, at-least}
+use Rattle.text.proofs.Numerals.{low-value, at-least}
 use Rattle.lines.proofs.read.read_decimal.Statement.{statement}
 use Rattle.lines.proofs.read.read_decimal.Tie as tie
 

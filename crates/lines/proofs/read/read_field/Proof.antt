@@ -8,9 +8,9 @@ use native.Mathlib.Omega.{arith}
 use lib.Dec.{eqb, lit<}
 use lib.ListN.{length, getD, drop}
 use lib.Seq.{drop-drop}
-use Rattle.lines.specs.Bytes.{all}
-use Rattle.lines.specs.Digits.{isHex}
-use Rattle.lines.specs.Fields.{eightAt, hAt, keyOf, hexAt}
+use Rattle.text.specs.Bytes.{all, eightAt}
+use Rattle.text.specs.Digits.{isHex}
+use Rattle.lines.specs.Fields.{hAt, keyOf, hexAt}
 use Rattle.lines.specs.Format.{hexDigits, hasHex}
 use Rattle.lines.specs.declared.read.Field.{Field}
 use Rattle.lines.proofs.Reading.{not-there, failed, held, inside, begins-key}

@@ -7,11 +7,11 @@ use mathlib.Core.List.{List}
 use Prim.Native.Nat.{ℕ, _+_, _-_, _≤_, _<_}
 use native.Mathlib.Omega.{arith}
 use lib.ListN.{length, drop, length-drop, length-take}
-use Rattle.lines.specs.Bytes.{all}
-use Rattle.lines.specs.Digits.{isHex, value}
-use Rattle.lines.specs.Fields.{eightAt, isH, hAt}
+use Rattle.text.specs.Bytes.{all, eightAt}
+use Rattle.text.specs.Digits.{isHex, value}
+use Rattle.lines.specs.Fields.{isH, hAt}
 use Rattle.lines.specs.declared.read.Field.the-variants.{Read, Missing}
-use Rattle.lines.proofs.Eight.{long}
+use Rattle.text.proofs.Part.{long}
 use Rattle.lines.proofs.Reading.{there, not-there}
 use Rattle.lines.proofs.read.read_h.Statement.{statement}
 use Rattle.lines.proofs.read.read_h.Tie as tie
@@ -26,7 +26,7 @@ module _ (l : List ℕ) (from : ℕ) (within : from ≤ length l) (enough : 8 �
   eight = omega arith
 
   tested : (t : Bool) → all isHex (eightAt from l) ≡ t → isH (eightAt from l) ≡ t
-  tested t e = rw (eq-eqb (length (eightAt from l)) 8 (long l from eight), e) refl
+  tested t e = rw (eq-eqb (length (eightAt from l)) 8 (long l from 8 eight), e) refl
 
   read : (n : ℕ) → all isHex (eightAt from l) ≡ true → n ≡ value 16 (eightAt from l) → Read n (from + 8) ≡ hAt from l
   read n e h = there _ _ _ _ _ (record { holds = tested true e; number = h; place = refl })

@@ -8,8 +8,8 @@ use Prim.Native.Nat.{ℕ, _+_, _-_, _≤_, min}
 use native.Mathlib.Omega.{arith}
 use lib.ListN.{length, take, drop, length-take, length-drop}
 use lib.Seq.{take-all}
-use Rattle.lines.specs.Bytes.{begins, all}
-use Rattle.lines.specs.Digits.{isHex, value}
+use Rattle.text.specs.Bytes.{begins, all}
+use Rattle.text.specs.Digits.{isHex, value}
 use Rattle.lines.specs.Fields.{keyOf, hexAt}
 use Rattle.lines.specs.Format.{hexDigits, hasHex}
 use Rattle.lines.specs.declared.read.Field.the-variants.{Read, Missing}

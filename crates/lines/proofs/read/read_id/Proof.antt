@@ -7,7 +7,7 @@ use Prim.Native.Nat.{ℕ, _+_}
 use native.Mathlib.Omega.{arith}
 use lib.Dec.{eqb, lit<}
 use lib.ListN.{length, getD}
-use Rattle.lines.specs.Digits.{value}
+use Rattle.text.specs.Digits.{value}
 use Rattle.lines.specs.Fields.{digitsAt, dAt, idOf}
 use Rattle.lines.specs.Format.{isD, idDigits, hasId}
 use Rattle.lines.specs.declared.read.Field.the-variants.{Read, Missing}

@@ -9,8 +9,8 @@ use native.Mathlib.Omega.{arith}
 use lib.Dec.{eqb, lit<}
 use lib.ListN.{length, getD, drop, length-drop}
 use lib.Seq.{drop-drop, getD-drop}
-use Rattle.lines.specs.Digits.{value}
-use Rattle.lines.specs.Bytes.{begins}
+use Rattle.text.specs.Digits.{value}
+use Rattle.text.specs.Bytes.{begins}
 use Rattle.lines.specs.Format.{longest, idKey, isD, xKey, yKey, idDigits, hasId, afterId, hexDigits, hasHex, hasX, afterX, hasY, readLine}
 use Rattle.lines.specs.declared.Line.the-variants.{Pair, TooLong, NoId, NoX, NoY}
 use Rattle.lines.proofs.Reading.{Found, found, missing, failed, held, inside}

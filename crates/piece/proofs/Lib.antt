@@ -1,0 +1,2 @@
+-- The laws of `piece`.
+pub mod Replied

@@ -1,0 +1,2 @@
+-- Document 01: complete lines and the unfinished tail.
+pub mod Complete

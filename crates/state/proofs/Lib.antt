@@ -1,0 +1,4 @@
+-- The laws of `state`.
+pub mod CarriedOn
+pub mod Holds
+pub mod Unbroken

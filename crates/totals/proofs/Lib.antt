@@ -1,0 +1,2 @@
+-- The laws of `totals`.
+pub mod Room
