@@ -37,7 +37,9 @@ pub enum Found {
     Unsure,
 }
 
-// The answer of the scaled pattern w, where no midpoint of two f32s is near.
+// The answer of the scaled pattern w, where no midpoint of two f32s is near. Of its digits an f32 drops
+// 29, and at a midpoint these are 2^28; 2^20 + 2^15 is the margin on either side, and 896 * 2^23 what the
+// exponents' fields differ by.
 fn rounded_pattern(w: u64) -> Found
     requires { ⌜ 898 * 2 ^ 52 ≤ w ⌝ ∗ ⌜ w < 1148 * 2 ^ 52 ⌝ }
     ensures { λ r. ⌜ r ≡ spec.roundedPattern w ⌝ }
