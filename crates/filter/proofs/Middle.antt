@@ -76,7 +76,7 @@ plus-zero t h = left-over t (nearestWhole t) (whole-fits t) (go t h)
 
 -- ---- t from -124 to 124
 -- the tests, one by one
-four : (a b c d : Bool) → ((a && b) && (c && d)) ≡ true → (a ≡ true) × (b ≡ true) × (c ≡ true) × (d ≡ true)
+pub four : (a b c d : Bool) → ((a && b) && (c && d)) ≡ true → (a ≡ true) × (b ≡ true) × (c ≡ true) × (d ≡ true)
 four true true true true e = (e, e, e, e)
 four true true true false e = absurd (true≢false (sym e))
 four true true false d e = absurd (true≢false (sym e))
@@ -84,8 +84,8 @@ four true false c d e = absurd (true≢false (sym e))
 four false b c d e = absurd (true≢false (sym e))
 
 -- what is between two numbers is one
-number : (x hi lo : Float) → T (fits binary64 x) → T (finite lo) → T (finite hi) → le x hi ≡ true → le lo x ≡ true → Number x
-number x hi lo f p q g h = record { held = f; plain = between-finite lo x hi p q (subst T (sym h) tt) (subst T (sym g) tt) }
+pub of-tests : (x lo hi : Float) → T (fits binary64 x) → T (finite lo) → T (finite hi) → le lo x ≡ true → le x hi ≡ true → Number x
+of-tests x lo hi f p q g h = record { held = f; plain = between-finite lo x hi p q (subst T (sym g) tt) (subst T (sym h) tt) }
 
 -- a number has a sign
 record Signed (x : Float) : Type 0 where
@@ -142,7 +142,7 @@ module _ (t : Float) (b : Bound S (124 * 2 ^ 53) t) where
   unfolding clearOfSwitches ofBits
   switch-bounds e =
       let o = four (le (partOf t) (f64 0x3fdfffffff000000)) (le (f64 0xbfdfffffff000000) (partOf t)) (le (restOf t) (f64 0x3f8fffffe0000000)) (le (f64 0xbf8fffffe0000000) (restOf t)) e in
-      (part-bound (number (partOf t) (f64 0x3fdfffffff000000) (f64 0xbfdfffffff000000) part-fits tt tt (o .0) (o .1)) (o .0) (o .1), rest-bound (number (restOf t) (f64 0x3f8fffffe0000000) (f64 0xbf8fffffe0000000) rest-fits tt tt (o .2) (o .3)) (o .2) (o .3))
+      (part-bound (of-tests (partOf t) (f64 0xbfdfffffff000000) (f64 0x3fdfffffff000000) part-fits tt tt (o .1) (o .0)) (o .0) (o .1), rest-bound (of-tests (restOf t) (f64 0xbf8fffffe0000000) (f64 0x3f8fffffe0000000) rest-fits tt tt (o .3) (o .2)) (o .2) (o .3))
 
   pub plain-range : clearOfSwitches (partOf t) (restOf t) ≡ true → (898 * 2 ^ 52 ≤ scaled (plainPattern t) (toSigned 63 (nearestWhole t))) × (scaled (plainPattern t) (toSigned 63 (nearestWhole t)) < 1148 * 2 ^ 52)
   plain-range e =

@@ -2,7 +2,7 @@
 -- to 2. Assumes nothing.
 use mathlib.Core.Path.{_≡_, refl, sym, subst}
 use mathlib.Core.Logic.{_⊎_, inl, inr}
-use mathlib.Core.Bool.{Bool, true, false, true≢false, _&&_}
+use mathlib.Core.Bool.{true, false, _&&_}
 use Prim.Native.Nat.{ℕ, _+_, _-_, _*_, _^_, _≤_, _<_}
 use native.Mathlib.Nat.{lt-of-lt-of-le, le-trans}
 use native.Mathlib.Omega.{arith}
@@ -10,12 +10,10 @@ use lib.Dec.{T, lit≤, lit<}
 use lib.IntN.{pos, negsuc}
 use lib.Ieee.{Float, fin, binary64, fits, le, lt, ne, ofBits, toSigned}
 use lib.Ieee.Fits.{sub-fits}
-use lib.Ieee.Scale.{finite}
 use Rattle.floats.specs.Operations.{f64}
 use Rattle.floats.specs.OnBits.{absolute}
 use Rattle.floats.specs.Narrowing.{nearestWhole}
 use Rattle.special.specs.Special.{one}
-use Rattle.fast_path.proofs.Index.{between-finite}
 use Rattle.bounds.proofs.Values.{perOne, plus, less, mag, one-side, Number}
 use Rattle.bounds.proofs.Scales.{S, S-pos, one-is, Bound, tested}
 use Rattle.bounds.proofs.Distances.{Apart, sub-apart}
@@ -23,19 +21,13 @@ use Rattle.bounds.proofs.Nearest.{whole-bound}
 use Rattle.bounds.proofs.Compared.{units-of-le, lt-true}
 use Rattle.filter.specs.Plain.{partOf, restOf}
 use Rattle.filter.proofs.Power.{part-half}
+use Rattle.filter.proofs.Middle.{four, of-tests}
 use Rattle.filter.proofs.Limits.{between-bound, lower-edge, upper-edge, InsideEdges}
 use Rattle.slow_filter.specs.Plain.{wideOfSwitches, inReach}
 use Rattle.slow_filter.specs.Subnormal.{BelowNormal}
 use Rattle.slow_filter.proofs.BelowNormal.{below-normal}
 
 -- ---- the tests, one by one
-four : (a b c d : Bool) → ((a && b) && (c && d)) ≡ true → (a ≡ true) × (b ≡ true) × (c ≡ true) × (d ≡ true)
-four true true true true e = (e, e, e, e)
-four true true true false e = absurd (true≢false (sym e))
-four true true false d e = absurd (true≢false (sym e))
-four true false c d e = absurd (true≢false (sym e))
-four false b c d e = absurd (true≢false (sym e))
-
 pub record Reached (x y t : Float) : Type 0 where
   pub kept : le (fin false 1 (negsuc 28)) (absolute x) ≡ true
   pub not-one : ne y one ≡ true
@@ -56,7 +48,7 @@ reached x y t e =
 -- ---- t between -149.5 and -128
 module _ (t : Float) (f : T (fits binary64 t)) (high : le t (fin true 1 (pos 7)) ≡ true) (low : le (fin true 299 (negsuc 0)) t ≡ true) where
   number : Number t
-  number = record { held = f; plain = between-finite (fin true 299 (negsuc 0)) t (fin true 1 (pos 7)) tt tt (subst T (sym low) tt) (subst T (sym high) tt) }
+  number = of-tests t (fin true 299 (negsuc 0)) (fin true 1 (pos 7)) f tt tt low high
 
   pub reach-bound : Bound S (150 * 2 ^ 53) t
   reach-bound = between-bound (150 * 2 ^ 53) least most number low high
@@ -142,9 +134,6 @@ module _ (t : Float) (f : T (fits binary64 t)) (high : le t (fin true 1 (pos 7))
         between-bound (2 ^ 47 - 2 ^ 26) rest-low rest-high (of-tests (restOf t) (f64 0xbf8fffff00000000) (f64 0x3f8fffff00000000) rest-fits tt tt (o .3) (o .2)) (o .3) (o .2),
       )
     where
-      of-tests : (x lo hi : Float) → T (fits binary64 x) → T (finite lo) → T (finite hi) → le lo x ≡ true → le x hi ≡ true → Number x
-      of-tests x lo hi f p q g h = record { held = f; plain = between-finite lo x hi p q (subst T (sym g) tt) (subst T (sym h) tt) }
-
       part-low : Bound S (2 ^ 52 - 2 ^ 26) (f64 0xbfdffffff8000000)
       part-low = unfold ofBits fits in tested (2 ^ 52 - 2 ^ 26) (f64 0xbfdffffff8000000) tt
 
