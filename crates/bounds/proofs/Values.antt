@@ -10,7 +10,7 @@ use native.Mathlib.Omega.{arith}
 use lib.Dec.{T}
 use lib.Pow.{pow-pos}
 use lib.IntN.{ℤ}
-use lib.Ieee.{Float, nan, inf, fin, binary64, up, down, unlike, round, neg, add, mul, fits}
+use lib.Ieee.{Float, nan, inf, fin, binary64, up, down, unlike, round, neg, mul, fits}
 use lib.Ieee.Exact.{HasValue}
 use lib.Ieee.Fits.{neg-fits, down-pos}
 use lib.Ieee.Scale.{finite, round-same}

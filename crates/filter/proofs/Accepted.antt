@@ -15,6 +15,7 @@ use Rattle.fast_path.specs.Fast.{roundingTest}
 use Rattle.fast_path.specs.declared.Exp2.the-variants.{Rounded}
 use Rattle.fast_path.proofs.Lifted.{lifted, lifted-sum}
 use Rattle.fast_path.proofs.Midpoints.{clear-of-midpoints}
+use Rattle.filter.specs.Plain.{margin}
 use Rattle.filter.proofs.Power.{Unscaled}
 
 -- the fast path's pattern b, scaled, passes the rounding test, and its value narrows to the f32 that the plain pattern b′, scaled, is nearest to
@@ -61,11 +62,11 @@ patterns b b′ n w w′ e p q g h l m x y z = record {
 }
 
 -- where w′ is more than 2^20 + 2^15 from every midpoint, w is more than 2^15 from each, and no midpoint is between them
-module _ (w w′ e : ℕ) (p : Patterns w w′ e) (t : 0x210000 < (w′ + 0x10108000) % 0x20000000) where
+module _ (w w′ e : ℕ) (p : Patterns w w′ e) (t : 2 * margin < (w′ + (0x10000000 + margin)) % 0x20000000) where
   clear : 0x6000 < (w + 0x10002000) % 0x20000000
   clear = apart w w′ (p .over) (p .under) t
     where
-      apart : (w w′ : ℕ) → w ≤ w′ + 2 ^ 20 → w′ ≤ w + 2 ^ 20 → 0x210000 < (w′ + 0x10108000) % 0x20000000 → 0x6000 < (w + 0x10002000) % 0x20000000
+      apart : (w w′ : ℕ) → w ≤ w′ + 2 ^ 20 → w′ ≤ w + 2 ^ 20 → 2 * margin < (w′ + (0x10000000 + margin)) % 0x20000000 → 0x6000 < (w + 0x10002000) % 0x20000000
       apart w w′ g h t = omega arith
 
   passed : Rounded (f64 w) ≡ roundingTest (f64 w) (f64 e)
@@ -88,12 +89,12 @@ module _ (w w′ e : ℕ) (p : Patterns w w′ e) (t : 0x210000 < (w′ + 0x1010
       most : (w : ℕ) → w < 1148 * 2 ^ 52 → w ≤ 0x7ff0000000000000
       most w h = omega arith
 
-      rounds : (w w′ : ℕ) → 898 * 2 ^ 52 ≤ w → w < 1148 * 2 ^ 52 → w ≤ w′ + 2 ^ 20 → w′ ≤ w + 2 ^ 20 → 0x210000 < (w′ + 0x10108000) % 0x20000000
+      rounds : (w w′ : ℕ) → 898 * 2 ^ 52 ≤ w → w < 1148 * 2 ^ 52 → w ≤ w′ + 2 ^ 20 → w′ ≤ w + 2 ^ 20 → 2 * margin < (w′ + (0x10000000 + margin)) % 0x20000000
           → min ((w + 268435455 + w / 536870912 % 2) / 536870912 - 7516192768) 0x7f800000 ≡ (w′ + 0x10000000) / 0x20000000 - 0x1c0000000
       rounds w w′ l m g h t = omega arith
 
 -- ---- the two together, for the patterns before they are scaled
-pub accepted : (b b′ : ℕ) (k : ℤ) → Unscaled b → Unscaled b′ → b ≤ b′ + 2 ^ 20 → b′ ≤ b + 2 ^ 20 → Within 124 k → 0x210000 < (scaled b′ k + 0x10108000) % 0x20000000 → Accepted b b′ k
+pub accepted : (b b′ : ℕ) (k : ℤ) → Unscaled b → Unscaled b′ → b ≤ b′ + 2 ^ 20 → b′ ≤ b + 2 ^ 20 → Within 124 k → 2 * margin < (scaled b′ k + (0x10000000 + margin)) % 0x20000000 → Accepted b b′ k
 accepted b b′ k u v g h w t = record {
   passes = sym (passed (scaled b k) (scaled b′ k) (scaled 0x3d61d00000000000 k) p t);
   narrows = narrowed-is (scaled b k) (scaled b′ k) (scaled 0x3d61d00000000000 k) p t;

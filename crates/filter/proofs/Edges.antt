@@ -4,61 +4,57 @@ use mathlib.Core.Path.{_≡_, refl, sym, ap, _∙_, subst}
 use mathlib.Core.Logic.{_⊎_, inl, inr}
 use mathlib.Core.Bool.{Bool, true, false, true≢false, not, cond, _&&_}
 use Prim.Native.Nat.{ℕ, zero, suc, _+_, _-_, _*_, _/_, _%_, _^_, _≤_, _<_, min}
-use native.Mathlib.Nat.{le-refl, le-trans, le-of-eq, lt-of-lt-of-le, le-of-mul-le-mul-right, mul-le-mul-right, mul-right-comm, mul-assoc, le-div-iff-mul-le, zero-add, mul-pos, mul-comm}
+use native.Mathlib.Nat.{le-trans, le-of-eq, le-of-mul-le-mul-right, mul-le-mul-right, mul-right-comm, mul-assoc, le-div-iff-mul-le, zero-add, mul-pos, mul-comm}
 use native.Mathlib.Omega.{arith}
 use borrow.Author.Tests.{lt-leb, le-leb}
-use lib.Dec.{T, leb, lit≤, lit<}
+use lib.Dec.{leb, lit≤, lit<}
 use lib.IntN.{ℤ, pos, negsuc, negℤ}
 use lib.Ieee.{Float, nan, inf, fin, binary64, up, down, size, fits, toBits, toSigned, le, lt, eq, isNan}
 use lib.Ieee.Fits.{down-pos}
-use Rattle.floats.specs.Operations.{_⊖_, f64}
+use Rattle.floats.specs.Operations.{_⊖_}
 use Rattle.floats.specs.Narrowing.{nearestWhole}
 use Rattle.floats.proofs.Laws.Compare.{eq-by-lt}
 use Rattle.floats.proofs.Laws.Place.{place, place-above}
-use Rattle.floats.proofs.Laws.Sums.{SizeAtMost, whole-at-most}
+use Rattle.floats.proofs.Laws.Sums.{whole-at-most}
 use Rattle.floats.proofs.Laws.Units.{exponent, in-units, bits-of-value, fits-signed, bits-under-top}
 use Rattle.special.specs.Special as Special
 use Rattle.special.proofs.Rule.{finite-number}
 use Rattle.fast_path.specs.Scaling.{scaled, Within}
-use Rattle.fast_path.specs.Fast.{exp2Reduced, roundingTest, exp2Fast}
-use Rattle.fast_path.specs.declared.Exp2.{Exp2}
+use Rattle.fast_path.specs.Fast.{exp2Reduced, exp2Fast}
 use Rattle.fast_path.specs.declared.Exp2.the-variants.{Failed}
 use Rattle.fast_path.proofs.Index.{within-of-size}
 use Rattle.fast_path.proofs.Lifted.{lifted, lifted-sum}
 use Rattle.fast_path.proofs.Midpoints.{below-normal}
 use Rattle.bounds.proofs.Values.{perOne, plus, less, mag, mag-of, one-side, Number}
-use Rattle.bounds.proofs.Scales.{S, S-pos, one-is, unit, Bound, at}
+use Rattle.bounds.proofs.OwnScale.{Nil}
+use Rattle.bounds.proofs.Scales.{S, S-pos, one-is, unit, Bound}
 use Rattle.bounds.proofs.Compared.{le-true, le-false, lt-true, lt-false, units-of-le, units-of-not-lt, units-in-size}
-use Rattle.bounds.proofs.Distances.{Apart, sub-apart}
+use Rattle.bounds.proofs.Distances.{sub-apart}
 use Rattle.bounds.proofs.Nearest.{whole-bound}
-use Rattle.filter.specs.Plain.{partOf}
+use Rattle.filter.specs.Plain.{partOf, lowEdge, slowFrom, slowTo, highEdge}
 use Rattle.filter.specs.Right.{Inside, Fails, AtOne, AtInfinity}
 use Rattle.filter.proofs.Limits.{lower-edge, upper-edge}
 use Rattle.filter.proofs.Power.{Unscaled, part-half, fast-unscaled}
 use Rattle.filter.proofs.Times.{TimesBeside}
 
 -- ---- the numbers of the tests
-abbrev Below : Float → ℕ → Type 0
-Below c k = Number c × (plus c ≡ 0) × (less c ≡ k)
-
-abbrev Above : Float → ℕ → Type 0
-Above c k = Number c × (less c ≡ 0) × (plus c ≡ k)
-
-minus-151 : Below (fin true 151 (pos 0)) (151 * (2 ^ 53 * S))
+-- -151 is a thousandth and more beyond -150, and 129 beyond 128
+low-end : Number lowEdge × (plus lowEdge ≡ 0) × (1502 * (2 ^ 53 * S) ≤ less lowEdge * 10)
 unfolding fits S
-minus-151 = (record { held = tt; plain = tt }, refl, refl)
+low-end = (record { held = tt; plain = tt }, refl, lit≤ tt)
 
-minus-128 : Below (fin true 1 (pos 7)) (128 * (2 ^ 53 * S))
+high-end : Number highEdge × (less highEdge ≡ 0) × (1282 * (2 ^ 53 * S) ≤ plus highEdge * 10)
 unfolding fits S
-minus-128 = (record { held = tt; plain = tt }, refl, refl)
+high-end = (record { held = tt; plain = tt }, refl, lit≤ tt)
 
-minus-149½ : Below (fin true 299 (negsuc 0)) (299 * (2 ^ 52 * S))
+-- -128 is beyond -127.5, and -149.5 before -150, by as much
+slow-to : Number slowTo × (plus slowTo ≡ 0) × (1280 * (2 ^ 53 * S) ≤ less slowTo * 10)
 unfolding fits S
-minus-149½ = (record { held = tt; plain = tt }, refl, refl)
+slow-to = (record { held = tt; plain = tt }, refl, lit≤ tt)
 
-plus-129 : Above (fin false 129 (pos 0)) (129 * (2 ^ 53 * S))
+slow-from : Number slowFrom × (plus slowFrom ≡ 0) × (less slowFrom * 10 ≤ 1495 * (2 ^ 53 * S))
 unfolding fits S
-plus-129 = (record { held = tt; plain = tt }, refl, refl)
+slow-from = (record { held = tt; plain = tt }, refl, lit≤ tt)
 
 nought : Number Special.zero × (plus Special.zero ≡ 0) × (less Special.zero ≡ 0)
 unfolding fits
@@ -110,26 +106,26 @@ under-1000 : {t t′ : Float} → TimesBeside t t′ → (less t + plus t′) * 
 under-1000 {t} {t′} b = thousandth (less t + plus t′) (plus t + less t′) (mag t′) (b .under)
 
 -- ---- the lower edge
-pub low-edge : {t t′ : Float} → TimesBeside t t′ → le t′ (fin true 151 (pos 0)) ≡ true → le t (fin true 75 (pos 1)) ≡ true
+pub low-edge : {t t′ : Float} → TimesBeside t t′ → le t′ lowEdge ≡ true → le t (fin true 75 (pos 1)) ≡ true
 low-edge {t} {t′} b h =
     le-true (b .number) (lower-edge .0)
-    (go (plus t) (less t) (plus t′) (less t′) (plus (fin true 75 (pos 1))) (less (fin true 75 (pos 1))) (plus (fin true 151 (pos 0))) (less (fin true 151 (pos 0))) (2 ^ 53 * S) (one-side t′) (lower-edge .1) (lower-edge .2 ∙ mul-assoc 150 (2 ^ 53) S) (minus-151 .1) (minus-151 .2)
-    (units-of-le (b .beside) (minus-151 .0) h) (over-1000 b))
+    (go (plus t) (less t) (plus t′) (less t′) (plus (fin true 75 (pos 1))) (less (fin true 75 (pos 1))) (plus lowEdge) (less lowEdge) (2 ^ 53 * S) (one-side t′) (lower-edge .1) (lower-edge .2 ∙ mul-assoc 150 (2 ^ 53) S) (low-end .1) (low-end .2)
+    (units-of-le (b .beside) (low-end .0) h) (over-1000 b))
   where
-    go : (p n q m c d f g s : ℕ) → (q ≡ 0) ⊎ (m ≡ 0) → c ≡ 0 → d ≡ 150 * s → f ≡ 0 → g ≡ 151 * s → q + g ≤ f + m → (p + m) * 1000 ≤ (n + q) * 1000 + (q + m) → p + d ≤ c + n
+    go : (p n q m c d f g s : ℕ) → (q ≡ 0) ⊎ (m ≡ 0) → c ≡ 0 → d ≡ 150 * s → f ≡ 0 → 1502 * s ≤ g * 10 → q + g ≤ f + m → (p + m) * 1000 ≤ (n + q) * 1000 + (q + m) → p + d ≤ c + n
     go p n q m c d f g s (inl e) e1 e2 e3 e4 h i = omega arith
     go p n q m c d f g s (inr e) e1 e2 e3 e4 h i = omega arith
 
 -- ---- the upper edge
-pub high-edge : {t t′ : Float} → TimesBeside t t′ → le (fin false 129 (pos 0)) t′ ≡ true → AtInfinity t
+pub high-edge : {t t′ : Float} → TimesBeside t t′ → le highEdge t′ ≡ true → AtInfinity t
 high-edge {t} {t′} b h =
-    let r = go (plus t) (less t) (plus t′) (less t′) (plus (fin false 129 (pos 0))) (less (fin false 129 (pos 0))) (2 ^ 53 * S) (one-side t′) (plus-129 .1) (plus-129 .2) (units-of-le (plus-129 .0) (b .beside) h) (under-1000 b) in
+    let r = go (plus t) (less t) (plus t′) (less t′) (plus highEdge) (less highEdge) (2 ^ 53 * S) (one-side t′) (high-end .1) (high-end .2) (units-of-le (high-end .0) (b .beside) h) (under-1000 b) in
     record {
       above = not-low (b .number) (over (less t) (plus t) (2 ^ 53 * S) r one-pos);
       beyond = lt-false (b .number) (upper-edge .0) (beyond (plus t) (less t) (plus (fin false 1 (pos 7))) (less (fin false 1 (pos 7))) (2 ^ 53 * S) (upper-edge .1) (upper-edge .2 ∙ mul-assoc 128 (2 ^ 53) S) r);
     }
   where
-    go : (p n q m f g s : ℕ) → (q ≡ 0) ⊎ (m ≡ 0) → g ≡ 0 → f ≡ 129 * s → f + m ≤ q + g → (n + q) * 1000 ≤ (p + m) * 1000 + (q + m) → 128 * s + n ≤ p
+    go : (p n q m f g s : ℕ) → (q ≡ 0) ⊎ (m ≡ 0) → g ≡ 0 → 1282 * s ≤ f * 10 → f + m ≤ q + g → (n + q) * 1000 ≤ (p + m) * 1000 + (q + m) → 128 * s + n ≤ p
     go p n q m f g s (inl e) e1 e2 h i = omega arith
     go p n q m f g s (inr e) e1 e2 h i = omega arith
 
@@ -140,23 +136,15 @@ high-edge {t} {t′} b h =
     beyond p n q m s e f h = omega arith
 
 -- ---- the edge of 1
-pub at-one : {t t′ : Float} → TimesBeside t t′ → eq t′ Special.zero ≡ true → AtOne t
+-- what is 0 is there
+pub nil-at-one : {t : Float} → Nil t → AtOne t
 unfolding size isNan
-at-one {t} {t′} b h =
-    let o = both (lt t′ Special.zero) (lt Special.zero t′) (sym (eq-by-lt t′ Special.zero (finite-number t′ (b .beside .plain)) tt) ∙ h) in
-    let z = none (plus t) (less t) (plus t′) (less t′) (one-side t) (one-side t′) (units-of-not-lt (b .beside) (nought .0) (o .0)) (units-of-not-lt (nought .0) (b .beside) (o .1)) (over-1000 b) (under-1000 b) in
-    record { above = not-low (b .number) (low (plus t) (less t) (2 ^ 53 * S) (z .1) one-pos); below = not-high (b .number) (high (plus t) (less t) (2 ^ 53 * S) (z .0) one-pos); tiny = zero-bits t (b .number) (nil (plus t) (less t) (z .0) (z .1)) }
+nil-at-one {t} z =
+    let o = parts (plus t) (less t) (z .is) in
+    record { above = not-low (z .number) (low (plus t) (less t) (2 ^ 53 * S) (o .1) one-pos); below = not-high (z .number) (high (plus t) (less t) (2 ^ 53 * S) (o .0) one-pos); tiny = zero-bits t (z .number) (z .is) }
   where
-    both : (x y : Bool) → (not x && not y) ≡ true → (x ≡ false) × (y ≡ false)
-    both true y e = absurd (true≢false (sym e))
-    both false true e = absurd (true≢false (sym e))
-    both false false e = (refl, refl)
-
-    none : (p n q m : ℕ) → (p ≡ 0) ⊎ (n ≡ 0) → (q ≡ 0) ⊎ (m ≡ 0) → 0 + m ≤ q + 0 → q + 0 ≤ 0 + m → (p + m) * 1000 ≤ (n + q) * 1000 + (q + m) → (n + q) * 1000 ≤ (p + m) * 1000 + (q + m) → (p ≡ 0) × (n ≡ 0)
-    none p n q m (inl e) (inl f) g h i j = (omega arith, omega arith)
-    none p n q m (inl e) (inr f) g h i j = (omega arith, omega arith)
-    none p n q m (inr e) (inl f) g h i j = (omega arith, omega arith)
-    none p n q m (inr e) (inr f) g h i j = (omega arith, omega arith)
+    parts : (p n : ℕ) → p + n ≡ 0 → (p ≡ 0) × (n ≡ 0)
+    parts p n e = (omega arith, omega arith)
 
     low : (p n s : ℕ) → n ≡ 0 → 0 < s → n < 150 * s + p
     low p n s e h = omega arith
@@ -164,14 +152,28 @@ at-one {t} {t′} b h =
     high : (p n s : ℕ) → p ≡ 0 → 0 < s → p < 128 * s + n
     high p n s e h = omega arith
 
-    nil : (p n : ℕ) → p ≡ 0 → n ≡ 0 → p + n ≡ 0
-    nil p n e f = omega arith
-
     zero-bits : (x : Float) → Number x → mag x ≡ 0 → leb (toBits binary64 x * 2 % 2 ^ 64) 0x3e6715476ba97f14 ≡ true
     zero-bits nan n e = absurd (n .plain)
     zero-bits (inf s) n e = absurd (n .plain)
     zero-bits (fin s m d) n e =
         le-leb _ _ (le-trans (le-of-eq (ap (λ (k : ℕ). k * 2 % 2 ^ 64) (bits-of-value binary64 s m d (n .held)) ∙ ap (λ (k : ℕ). (cond s (2 ^ 63) 0 + place 53 k) * 2 % 2 ^ 64) (sym (mag-of s (m * 2 ^ exponent 1074 d)) ∙ e) ∙ shifted-place s 0 (lit< tt))) (lit≤ tt))
+
+pub at-one : {t t′ : Float} → TimesBeside t t′ → eq t′ Special.zero ≡ true → AtOne t
+unfolding isNan
+at-one {t} {t′} b h =
+    let o = both (lt t′ Special.zero) (lt Special.zero t′) (sym (eq-by-lt t′ Special.zero (finite-number t′ (b .beside .plain)) tt) ∙ h) in
+    nil-at-one (record { number = b .number; is = none (plus t) (less t) (plus t′) (less t′) (one-side t) (one-side t′) (units-of-not-lt (b .beside) (nought .0) (o .0)) (units-of-not-lt (nought .0) (b .beside) (o .1)) (over-1000 b) (under-1000 b) })
+  where
+    both : (x y : Bool) → (not x && not y) ≡ true → (x ≡ false) × (y ≡ false)
+    both true y e = absurd (true≢false (sym e))
+    both false true e = absurd (true≢false (sym e))
+    both false false e = (refl, refl)
+
+    none : (p n q m : ℕ) → (p ≡ 0) ⊎ (n ≡ 0) → (q ≡ 0) ⊎ (m ≡ 0) → 0 + m ≤ q + 0 → q + 0 ≤ 0 + m → (p + m) * 1000 ≤ (n + q) * 1000 + (q + m) → (n + q) * 1000 ≤ (p + m) * 1000 + (q + m) → p + n ≡ 0
+    none p n q m (inl e) (inl f) g h i j = omega arith
+    none p n q m (inl e) (inr f) g h i j = omega arith
+    none p n q m (inr e) (inl f) g h i j = omega arith
+    none p n q m (inr e) (inr f) g h i j = omega arith
 
 -- ---- below the normal f32s
 -- a whole number of at most -b, as an i64
@@ -229,16 +231,13 @@ record Subnormal (t : Float) : Type 0 where
   most : less t * 10 ≤ 1497 * (2 ^ 53 * S)
   least : 1278 * (2 ^ 53 * S) ≤ less t * 10
 
-subnormal : {t t′ : Float} → TimesBeside t t′ → le t′ (fin true 1 (pos 7)) ≡ true → le (fin true 299 (negsuc 0)) t′ ≡ true → Subnormal t
+subnormal : {t t′ : Float} → TimesBeside t t′ → le t′ slowTo ≡ true → le slowFrom t′ ≡ true → Subnormal t
 subnormal {t} {t′} b h g =
-    let r = go (plus t) (less t) (plus t′) (less t′) (plus (fin true 1 (pos 7))) (less (fin true 1 (pos 7))) (plus (fin true 299 (negsuc 0))) (less (fin true 299 (negsuc 0))) (2 ^ 53 * S) (one-side t) (one-side t′) one-pos (minus-128 .1) (minus-128 .2) (minus-149½ .1) (halves (less (fin true 299 (negsuc 0))) S (minus-149½ .2))
-    (units-of-le (b .beside) (minus-128 .0) h) (units-of-le (minus-149½ .0) (b .beside) g) (over-1000 b) (under-1000 b) in
+    let r = go (plus t) (less t) (plus t′) (less t′) (plus slowTo) (less slowTo) (plus slowFrom) (less slowFrom) (2 ^ 53 * S) (one-side t) (one-side t′) one-pos (slow-to .1) (slow-to .2) (slow-from .1) (slow-from .2)
+    (units-of-le (b .beside) (slow-to .0) h) (units-of-le (slow-from .0) (b .beside) g) (over-1000 b) (under-1000 b) in
     record { number = b .number; negative = r .0; most = r .1; least = r .2 }
   where
-    halves : (k s : ℕ) → k ≡ 299 * (2 ^ 52 * s) → 2 * k ≡ 299 * (2 ^ 53 * s)
-    halves k s e = omega arith
-
-    go : (p n q m c d f g s : ℕ) → (p ≡ 0) ⊎ (n ≡ 0) → (q ≡ 0) ⊎ (m ≡ 0) → 0 < s → c ≡ 0 → d ≡ 128 * s → f ≡ 0 → 2 * g ≡ 299 * s → q + d ≤ c + m → f + m ≤ q + g
+    go : (p n q m c d f g s : ℕ) → (p ≡ 0) ⊎ (n ≡ 0) → (q ≡ 0) ⊎ (m ≡ 0) → 0 < s → c ≡ 0 → 1280 * s ≤ d * 10 → f ≡ 0 → g * 10 ≤ 1495 * s → q + d ≤ c + m → f + m ≤ q + g
         → (p + m) * 1000 ≤ (n + q) * 1000 + (q + m) → (n + q) * 1000 ≤ (p + m) * 1000 + (q + m) → (p ≡ 0) × (n * 10 ≤ 1497 * s) × (1278 * s ≤ n * 10)
     go p n q m c d f g s (inl x) (inl y) z e1 e2 e3 e4 h i j k = (omega arith, omega arith, omega arith)
     go p n q m c d f g s (inl x) (inr y) z e1 e2 e3 e4 h i j k = (omega arith, omega arith, omega arith)
@@ -304,5 +303,5 @@ module _ (t : Float) (s : Subnormal t) where
   fails-tests : Fails t
   fails-tests = record { inside = inside; fails = fails }
 
-pub below-normals : {t t′ : Float} → TimesBeside t t′ → le t′ (fin true 1 (pos 7)) ≡ true → le (fin true 299 (negsuc 0)) t′ ≡ true → Fails t
+pub below-normals : {t t′ : Float} → TimesBeside t t′ → le t′ slowTo ≡ true → le slowFrom t′ ≡ true → Fails t
 below-normals {t} b g h = fails-tests t (subnormal b g h)

@@ -9,5 +9,6 @@ pub mod Power
 pub mod Accepted
 pub mod Middle
 pub mod Times
+pub mod Near
 pub mod Edges
 pub mod Settled

@@ -4,15 +4,14 @@ use mathlib.Core.Path.{_≡_, refl, subst, sym}
 use mathlib.Core.Logic.{_⊎_, inl, inr}
 use mathlib.Core.Bool.{true, false}
 use Prim.Native.Nat.{ℕ, _+_, _-_, _*_, _^_, _≤_, _<_}
-use native.Mathlib.Nat.{le-trans, le-of-eq, lt-of-le-of-lt}
 use native.Mathlib.Omega.{arith}
-use lib.Dec.{T, lit<}
-use lib.IntN.{pos, negsuc}
-use lib.Ieee.{Float, fin, binary64, fits, ofBits, le, lt}
-use Rattle.floats.specs.Operations.{f64}
-use Rattle.bounds.proofs.Values.{plus, less, mag, one-side, Number}
-use Rattle.bounds.proofs.Scales.{S, unit, Bound, within, tested}
-use Rattle.bounds.proofs.Compared.{le-true, lt-true, units-of-le}
+use lib.Dec.{lit<}
+use lib.IntN.{pos}
+use lib.Ieee.{Float, fin, fits, ofBits, neg, le, lt}
+use Rattle.bounds.proofs.Values.{plus, less, one-side, Number}
+use Rattle.bounds.proofs.Scales.{S, unit, Bound, tested}
+use Rattle.bounds.proofs.Compared.{lt-true, units-of-le}
+use Rattle.filter.specs.Plain.{partEnd, restEnd}
 
 -- between a and b, both at most K
 pub between-bound : {a b x : Float} (K : ℕ) → Bound S K a → Bound S K b → Number x → le a x ≡ true → le x b ≡ true → Bound S K x
@@ -71,20 +70,20 @@ middle-bound n g h = between-bound (124 * 2 ^ 53) low high n g h
     high : Bound S (124 * 2 ^ 53) (fin false 31 (pos 2))
     high = unfold fits in tested (124 * 2 ^ 53) (fin false 31 (pos 2)) tt
 
-pub part-bound : {t : Float} → Number t → le t (f64 0x3fdfffffff000000) ≡ true → le (f64 0xbfdfffffff000000) t ≡ true → Bound S (2 ^ 52 - 2 ^ 23) t
+pub part-bound : {t : Float} → Number t → le t partEnd ≡ true → le (neg partEnd) t ≡ true → Bound S (2 ^ 52 - 2 ^ 23) t
 part-bound n g h = between-bound (2 ^ 52 - 2 ^ 23) low high n h g
   where
-    low : Bound S (2 ^ 52 - 2 ^ 23) (f64 0xbfdfffffff000000)
-    low = unfold ofBits fits in tested (2 ^ 52 - 2 ^ 23) (f64 0xbfdfffffff000000) tt
+    low : Bound S (2 ^ 52 - 2 ^ 23) (neg partEnd)
+    low = unfold ofBits fits neg in tested (2 ^ 52 - 2 ^ 23) (neg partEnd) tt
 
-    high : Bound S (2 ^ 52 - 2 ^ 23) (f64 0x3fdfffffff000000)
-    high = unfold ofBits fits in tested (2 ^ 52 - 2 ^ 23) (f64 0x3fdfffffff000000) tt
+    high : Bound S (2 ^ 52 - 2 ^ 23) partEnd
+    high = unfold ofBits fits neg in tested (2 ^ 52 - 2 ^ 23) partEnd tt
 
-pub rest-bound : {t : Float} → Number t → le t (f64 0x3f8fffffe0000000) ≡ true → le (f64 0xbf8fffffe0000000) t ≡ true → Bound S (2 ^ 47 - 2 ^ 23) t
+pub rest-bound : {t : Float} → Number t → le t restEnd ≡ true → le (neg restEnd) t ≡ true → Bound S (2 ^ 47 - 2 ^ 23) t
 rest-bound n g h = between-bound (2 ^ 47 - 2 ^ 23) low high n h g
   where
-    low : Bound S (2 ^ 47 - 2 ^ 23) (f64 0xbf8fffffe0000000)
-    low = unfold ofBits fits in tested (2 ^ 47 - 2 ^ 23) (f64 0xbf8fffffe0000000) tt
+    low : Bound S (2 ^ 47 - 2 ^ 23) (neg restEnd)
+    low = unfold ofBits fits neg in tested (2 ^ 47 - 2 ^ 23) (neg restEnd) tt
 
-    high : Bound S (2 ^ 47 - 2 ^ 23) (f64 0x3f8fffffe0000000)
-    high = unfold ofBits fits in tested (2 ^ 47 - 2 ^ 23) (f64 0x3f8fffffe0000000) tt
+    high : Bound S (2 ^ 47 - 2 ^ 23) restEnd
+    high = unfold ofBits fits neg in tested (2 ^ 47 - 2 ^ 23) restEnd tt

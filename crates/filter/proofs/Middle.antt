@@ -4,11 +4,11 @@ use mathlib.Core.Path.{_≡_, refl, sym, subst}
 use mathlib.Core.Logic.{inl, inr}
 use mathlib.Core.Bool.{Bool, true, false, true≢false, _&&_}
 use Prim.Native.Nat.{ℕ, zero, suc, _+_, _-_, _*_, _^_, _≤_, _<_}
-use native.Mathlib.Nat.{le-trans, le-of-eq, lt-of-lt-of-le, lt-irrefl, zero-mul, zero-lt-suc}
+use native.Mathlib.Nat.{le-trans, le-of-eq, lt-irrefl, zero-mul, zero-lt-suc}
 use native.Mathlib.Omega.{arith}
 use lib.Dec.{T, lit≤, lit<}
 use lib.IntN.{ℤ, pos}
-use lib.Ieee.{Float, nan, inf, fin, binary64, fits, le, lt, ofBits, toSigned}
+use lib.Ieee.{Float, nan, inf, fin, binary64, fits, neg, le, lt, ofBits, toSigned}
 use lib.Ieee.Fits.{sub-fits}
 use lib.Ieee.Scale.{finite}
 use Rattle.floats.specs.Operations.{_⊕_, _⊖_, f64}
@@ -25,10 +25,10 @@ use Rattle.fast_path.proofs.Lifted.{lifted}
 use Rattle.fast_path.proofs.Index.{between-finite, within-of-size, exponent-small, Castable, whole-k, distance-index}
 use Rattle.bounds.proofs.Values.{perOne, plus, less, mag, Number}
 use Rattle.bounds.proofs.Scales.{S, one-is, Bound, at}
-use Rattle.bounds.proofs.Distances.{Apart, apart-at}
+use Rattle.bounds.proofs.Distances.{apart-at}
 use Rattle.bounds.proofs.Apart.{apart-same}
 use Rattle.bounds.proofs.Compared.{units-in-size, units-of-not-lt}
-use Rattle.filter.specs.Plain.{partOf, restOf, plainPattern, clearOfSwitches, isTiny}
+use Rattle.filter.specs.Plain.{partOf, restOf, plainPattern, partEnd, restEnd, clearOfSwitches, isTiny}
 use Rattle.filter.proofs.Limits.{InsideEdges, inside-edges, part-bound, rest-bound}
 use Rattle.filter.proofs.Power.{Unscaled, power-beside}
 use Rattle.filter.proofs.Accepted.{lifted-low, lifted-high, scaled-is}
@@ -139,10 +139,10 @@ module _ (t : Float) (b : Bound S (124 * 2 ^ 53) t) where
 
   -- clear of the switches
   pub switch-bounds : clearOfSwitches (partOf t) (restOf t) ≡ true → Bound S (2 ^ 52 - 2 ^ 23) (partOf t) × Bound S (2 ^ 47 - 2 ^ 23) (restOf t)
-  unfolding clearOfSwitches ofBits
+  unfolding clearOfSwitches ofBits neg
   switch-bounds e =
-      let o = four (le (partOf t) (f64 0x3fdfffffff000000)) (le (f64 0xbfdfffffff000000) (partOf t)) (le (restOf t) (f64 0x3f8fffffe0000000)) (le (f64 0xbf8fffffe0000000) (restOf t)) e in
-      (part-bound (of-tests (partOf t) (f64 0xbfdfffffff000000) (f64 0x3fdfffffff000000) part-fits tt tt (o .1) (o .0)) (o .0) (o .1), rest-bound (of-tests (restOf t) (f64 0xbf8fffffe0000000) (f64 0x3f8fffffe0000000) rest-fits tt tt (o .3) (o .2)) (o .2) (o .3))
+      let o = four (le (partOf t) partEnd) (le (neg partEnd) (partOf t)) (le (restOf t) restEnd) (le (neg restEnd) (restOf t)) e in
+      (part-bound (of-tests (partOf t) (neg partEnd) partEnd part-fits tt tt (o .1) (o .0)) (o .0) (o .1), rest-bound (of-tests (restOf t) (neg restEnd) restEnd rest-fits tt tt (o .3) (o .2)) (o .2) (o .3))
 
   pub plain-range : clearOfSwitches (partOf t) (restOf t) ≡ true → (898 * 2 ^ 52 ≤ scaled (plainPattern t) (toSigned 63 (nearestWhole t))) × (scaled (plainPattern t) (toSigned 63 (nearestWhole t)) < 1148 * 2 ^ 52)
   plain-range e =

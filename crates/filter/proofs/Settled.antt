@@ -1,36 +1,35 @@
 -- What the filter finds of the plain t′ is right of t = l×y as the fast path has it (`plain-right`): at the edges by how near the two are, and between them by the nearness of the two powers. Assumes
 -- nothing.
-use mathlib.Core.Path.{_≡_, refl, sym, ap, ap₂, _∙_, subst}
+use mathlib.Core.Path.{_≡_, refl, ap, _∙_}
 use mathlib.Core.Logic.{_⊎_, inl, inr}
-use mathlib.Core.Bool.{Bool, true, false, true≢false, cond, _&&_}
+use mathlib.Core.Bool.{Bool, true, false, cond, _&&_}
 use Prim.Native.Nat.{ℕ, _+_, _-_, _*_, _/_, _%_, _^_, _≤_, _<_}
 use native.Mathlib.Nat.{le-trans, le-of-eq, lt-of-lt-of-le, mul-assoc, zero-add, add-zero}
 use native.Mathlib.Omega.{arith}
 use borrow.Author.Tests.{ltb-true}
-use lib.Dec.{T, ltb, ltb→lt, lit≤, lit<}
-use lib.IntN.{ℤ, pos, negsuc}
-use lib.Ieee.{Float, fin, binary32, binary64, fits, ofBits, toSigned, le, lt, eq}
+use lib.Dec.{ltb, lit≤, lit<}
+use lib.IntN.{pos}
+use lib.Ieee.{Float, fin, binary32, fits, ofBits, toSigned, le, lt, eq}
 use Rattle.floats.specs.Operations.{_⊖_, f64}
 use Rattle.floats.specs.Narrowing.{nearestWhole}
 use Rattle.floats.proofs.Laws.Units.{HasSign}
 use Rattle.special.specs.Special as Special
 use Rattle.fast_path.specs.Scaling.{scaled}
 use Rattle.fast_path.specs.Fast.{exp2Reduced, roundingTest, exp2Fast}
-use Rattle.fast_path.specs.declared.Exp2.the-variants.{Rounded}
 use Rattle.bounds.proofs.Values.{plus, less, mag, one-side, Number}
-use Rattle.bounds.proofs.Scales.{S, S-pos, Bound, at}
+use Rattle.bounds.proofs.Scales.{S, Bound, at}
 use Rattle.bounds.proofs.Distances.{Apart, bound-near}
 use Rattle.bounds.proofs.Compared.{le-true, units-of-not-lt}
 use Rattle.bounds.proofs.Nearest.{sign-above, sign-below}
-use Rattle.filter.specs.declared.Found.{Found}
 use Rattle.filter.specs.declared.Found.the-variants.{Fast, Slow, Low, High, One, Unsure}
-use Rattle.filter.specs.Plain.{partOf, restOf, plainPattern, roundedPattern, clearOfSwitches, middleFound, lowFound, highFound, tinyFound, isTiny, plainFound}
+use Rattle.filter.specs.Plain.{partOf, restOf, plainPattern, margin, nearMidpoint, roundedPattern, clearOfSwitches, middleFound, lowEdge, slowFrom, slowTo, lowFound, highEdge, highFound, tinyFound, isTiny, plainFound}
 use Rattle.filter.specs.Right.{Inside, Passed, Right}
 use Rattle.filter.proofs.Limits.{middle-bound}
 use Rattle.filter.proofs.Power.{PowerBeside, power-beside}
 use Rattle.filter.proofs.Accepted.{Accepted, accepted}
 use Rattle.filter.proofs.Middle.{not-small, whole-within, switch-bounds}
 use Rattle.filter.proofs.Times.{TimesBeside}
+use Rattle.filter.proofs.Near.{near-right}
 use Rattle.filter.proofs.Edges.{one-pos, not-low, not-high, not-tiny, low-edge, high-edge, at-one, below-normals}
 
 -- ---- between the edges: t′ from 2^-300 to 124 in size
@@ -106,7 +105,7 @@ module _ (t t′ : Float) (b : TimesBeside t t′) (m : Bound S (124 * 2 ^ 53) t
       large p n q k x y h i j = at-half p n q k (2 ^ 773) x y (le-trans (lit≤ tt) h) (half (p + k) (n + q) (q + k) i) (half (n + q) (p + k) (q + k) j)
 
   -- clear of the switches and of the midpoints
-  module _ (clear : clearOfSwitches (partOf t′) (restOf t′) ≡ true) (apart : 0x210000 < (scaled (plainPattern t′) (toSigned 63 (nearestWhole t′)) + 0x10108000) % 0x20000000) where
+  module _ (clear : clearOfSwitches (partOf t′) (restOf t′) ≡ true) (apart : 2 * margin < (scaled (plainPattern t′) (toSigned 63 (nearestWhole t′)) + (0x10000000 + margin)) % 0x20000000) where
     powers : PowerBeside t t′
     powers =
         let o = switch-bounds t′ m clear in
@@ -126,20 +125,20 @@ module _ (t t′ : Float) (b : TimesBeside t t′) (m : Bound S (124 * 2 ^ 53) t
 
   middle-right : Right (middleFound t′) t
   unfolding middleFound roundedPattern
-  middle-right = go (clearOfSwitches (partOf t′) (restOf t′)) refl (ltb 0x210000 ((scaled (plainPattern t′) (toSigned 63 (nearestWhole t′)) + 0x10108000) % 0x20000000)) refl
+  middle-right = go (clearOfSwitches (partOf t′) (restOf t′)) refl (ltb (2 * margin) ((scaled (plainPattern t′) (toSigned 63 (nearestWhole t′)) + (0x10000000 + margin)) % 0x20000000)) refl
     where
-      go : (x : Bool) → clearOfSwitches (partOf t′) (restOf t′) ≡ x → (y : Bool) → ltb 0x210000 ((scaled (plainPattern t′) (toSigned 63 (nearestWhole t′)) + 0x10108000) % 0x20000000) ≡ y
-          → Right (cond x (cond y (Fast (ofBits binary32 ((scaled (plainPattern t′) (toSigned 63 (nearestWhole t′)) + 0x10000000) / 0x20000000 - 0x1c0000000))) Unsure) Unsure) t
+      go : (x : Bool) → clearOfSwitches (partOf t′) (restOf t′) ≡ x → (y : Bool) → ltb (2 * margin) ((scaled (plainPattern t′) (toSigned 63 (nearestWhole t′)) + (0x10000000 + margin)) % 0x20000000) ≡ y
+          → Right (cond x (cond y (Fast (ofBits binary32 ((scaled (plainPattern t′) (toSigned 63 (nearestWhole t′)) + 0x10000000) / 0x20000000 - 0x1c0000000))) (nearMidpoint t′ (scaled (plainPattern t′) (toSigned 63 (nearestWhole t′))))) Unsure) t
       go true e true f = passed e (ltb-true _ _ f)
-      go true e false f = tt
+      go true e false f = near-right (signs .sign) t t′ (signs .has) (signs .plain-has) b inside
       go false e y f = tt
 
 -- ---- all of it
 low-right : {t t′ : Float} → TimesBeside t t′ → Right (lowFound t′) t
 unfolding lowFound
-low-right {t} {t′} b = go (le t′ (fin true 151 (pos 0))) refl (le t′ (fin true 1 (pos 7))) refl (le (fin true 299 (negsuc 0)) t′) refl
+low-right {t} {t′} b = go (le t′ lowEdge) refl (le t′ slowTo) refl (le slowFrom t′) refl
   where
-    go : (x : Bool) → le t′ (fin true 151 (pos 0)) ≡ x → (y : Bool) → le t′ (fin true 1 (pos 7)) ≡ y → (z : Bool) → le (fin true 299 (negsuc 0)) t′ ≡ z → Right (cond x Low (cond (y && z) Slow Unsure)) t
+    go : (x : Bool) → le t′ lowEdge ≡ x → (y : Bool) → le t′ slowTo ≡ y → (z : Bool) → le slowFrom t′ ≡ z → Right (cond x Low (cond (y && z) Slow Unsure)) t
     go true e y f z g = low-edge b e
     go false e true f true g = below-normals b f g
     go false e true f false g = tt
@@ -147,9 +146,9 @@ low-right {t} {t′} b = go (le t′ (fin true 151 (pos 0))) refl (le t′ (fin 
 
 high-right : {t t′ : Float} → TimesBeside t t′ → Right (highFound t′) t
 unfolding highFound
-high-right {t} {t′} b = go (le (fin false 129 (pos 0)) t′) refl
+high-right {t} {t′} b = go (le highEdge t′) refl
   where
-    go : (x : Bool) → le (fin false 129 (pos 0)) t′ ≡ x → Right (cond x High Unsure) t
+    go : (x : Bool) → le highEdge t′ ≡ x → Right (cond x High Unsure) t
     go true e = high-edge b e
     go false e = tt
 

@@ -1,14 +1,11 @@
 -- Times y: the fast path's t = l×y and the plain one differ by 33 / 2^45 of its size at most, a little more than the logarithms do (`times-beside`). Both products are rounded once, and neither is
 -- so small that the rounding counts for more. Assumes nothing.
-use mathlib.Core.Path.{_≡_, refl, sym, ap, _∙_, subst}
+use mathlib.Core.Path.{_≡_, sym, ap, _∙_}
 use mathlib.Core.Logic.{_⊎_, inl, inr}
-use mathlib.Core.Bool.{Bool, true, false}
 use Prim.Native.Nat.{ℕ, zero, suc, _+_, _-_, _*_, _^_, _≤_, _<_}
 use native.Mathlib.Nat.{le-refl, le-trans, le-of-eq, le-of-lt, le-of-mul-le-mul-right, mul-le-mul, mul-le-mul-right, mul-pos, zero-lt-suc, zero-mul, mul-zero, mul-assoc, mul-right-comm, one-mul}
 use native.Mathlib.Omega.{arith}
-use lib.Dec.{T, lit≤, lit<}
-use lib.Pow.{pow-pos, pow-add}
-use lib.IntN.{ℤ}
+use lib.Dec.{T, lit≤}
 use lib.Ieee.{Float, nan, inf, fin, binary32, binary64, up, down, fits}
 use lib.Ieee.Fits.{fits-widens, up-pos, down-pos}
 use lib.Ieee.Scale.{finite}
@@ -18,7 +15,6 @@ use Rattle.bounds.proofs.Values.{perOne, perOne-pos, plus, less, mag, mag-of, o
 use Rattle.bounds.proofs.Operation.{limit, Multiplied, mul-near, nothing}
 use Rattle.bounds.proofs.Dekker.{plusTimes, lessTimes, off-product}
 use Rattle.bounds.proofs.Scales.{S, Bound}
-use Rattle.filter.proofs.Relative.{Relative}
 use Rattle.filter.proofs.Logarithm.{LogBeside}
 
 -- ---- an f32 in units: 0, or from 2^-149 to 2^128

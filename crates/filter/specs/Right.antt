@@ -1,13 +1,12 @@
 -- When what the filter finds is right, for t = l×y as the fast path has it: each case says what document 01, "Table path", makes of t.
-use Prim.Native.Nat.{ℕ, _*_, _%_, _^_}
+use Prim.Native.Nat.{_*_, _%_, _^_}
 use mathlib.Core.Path.{_≡_}
-use mathlib.Core.Bool.{true, false, not}
-use lib.Dec.{T, leb}
+use mathlib.Core.Bool.{true, false}
+use lib.Dec.{leb}
 use lib.IntN.{pos}
 use lib.Ieee.{Float, fin, binary64, toBits, lt, le}
 use Rattle.floats.specs.Narrowing.{narrowed}
 use Rattle.fast_path.specs.Fast.{exp2Fast}
-use Rattle.fast_path.specs.declared.Exp2.{Exp2}
 use Rattle.fast_path.specs.declared.Exp2.the-variants.{Rounded, Failed}
 use Rattle.filter.specs.declared.Found.{Found}
 use Rattle.filter.specs.declared.Found.the-variants.{Fast, Slow, Low, High, One, Unsure}

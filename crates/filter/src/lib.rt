@@ -1,9 +1,10 @@
 // The filter in front of the fast path: logarithm and power of two in plain f64s, and what they settle.
 // Where the plain value is further from every midpoint of two f32s, and from every switch of k and of
 // the index, than it can be from the fast path's own, it settles that the rounding test passes and what
-// the answer is; where t is clear of the edges it settles the route. Elsewhere nothing is found, and
-// the fast path runs as written. How far the two can be from each other is a theorem
-// (proofs/Logarithm.antt, proofs/Power.antt).
+// the answer is; where t is next to 0 and the value next to a midpoint, that the test fails; where t is
+// clear of the edges it settles the route. Elsewhere nothing is found, and the fast path runs as
+// written. How far the two can be from each other is a theorem (proofs/Logarithm.antt,
+// proofs/Power.antt, proofs/Near.antt).
 use crate::plain::plain_log2p1;
 use crate::plain::plain_power;
 use fast_path::power_index;
@@ -37,18 +38,34 @@ pub enum Found {
     Unsure,
 }
 
+// Slow, where the scaled pattern w is at most 2^11 from a midpoint of two f32s, at which the last 29
+// digits are 2^28, and |t| is at most 2^-14. There the fast path's pattern is at most 64 from w, and its
+// bound on the error is 2280 last places or more, so that the midpoint is between its two bounds.
+fn near_midpoint(t: f64, w: u64) -> Found
+    requires { ⌜ w < 1148 * 2 ^ 52 ⌝ }
+    ensures { λ r. ⌜ r ≡ spec.nearMidpoint t w ⌝ }
+{
+    // 2^-14
+    let small = (t <= f64::from_bits(0x3f10_0000_0000_0000))
+        & (t >= f64::from_bits(0xbf10_0000_0000_0000));
+    if small & ((w + 0x1000_0800) % 0x2000_0000 <= 0x1000) {
+        return Found::Slow;
+    }
+    Found::Unsure
+}
+
 // The answer of the scaled pattern w, where no midpoint of two f32s is near. Of its digits an f32 drops
 // 29, and at a midpoint these are 2^28; 2^20 + 2^15 is the margin on either side, and 896 * 2^23 what the
 // exponents' fields differ by.
-fn rounded_pattern(w: u64) -> Found
+fn rounded_pattern(t: f64, w: u64) -> Found
     requires { ⌜ 898 * 2 ^ 52 ≤ w ⌝ ∗ ⌜ w < 1148 * 2 ^ 52 ⌝ }
-    ensures { λ r. ⌜ r ≡ spec.roundedPattern w ⌝ }
+    ensures { λ r. ⌜ r ≡ spec.roundedPattern t w ⌝ }
 {
     if (w + 0x1010_8000) % 0x2000_0000 > 0x21_0000 {
         let n = (w + 0x1000_0000) / 0x2000_0000 - 0x1_c000_0000;
         return Found::Fast(f32::from_bits(n as u32));
     }
-    Found::Unsure
+    near_midpoint(t, w)
 }
 
 // Whether no switch of k or of the index is near.
@@ -77,7 +94,7 @@ fn middle_found(t: f64) -> Found
     }
     let rest = part - compoundf_exp2_t(i);
     if clear_of_switches(part, rest) {
-        return rounded_pattern(scaled(plain_power(i, rest), k as i64));
+        return rounded_pattern(t, scaled(plain_power(i, rest), k as i64));
     }
     Found::Unsure
 }

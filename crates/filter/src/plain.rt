@@ -19,7 +19,7 @@ ghost use Rattle.special.specs.Special.{minusOne};
 ghost use Rattle.filter.specs.Plain as spec;
 
 // What z is multiplied by in the polynomial near log2(1 + z).
-fn plain_factor(z: f64) -> f64
+pub fn plain_factor(z: f64) -> f64
     ensures { λ r. ⌜ r ≡ spec.plainFactor z ⌝ }
 {
     let z2 = z * z;

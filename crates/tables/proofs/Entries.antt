@@ -5,11 +5,11 @@ use mathlib.Core.Path.{_≡_, refl, sym, ap, _∙_, subst}
 use mathlib.Core.Logic.{inl, inr}
 use mathlib.Core.Bool.{Bool, true, false, not, _&&_, Bool·beq}
 use mathlib.Core.List.{List}
-use Prim.Native.Nat.{ℕ, zero, suc, _+_, _-_, _*_, _^_, _<_}
+use Prim.Native.Nat.{ℕ, zero, suc, _-_, _*_, _^_, _<_}
 use native.Mathlib.Nat.{eq-or-lt-of-le, le-of-suc-le-suc, not-suc-le-zero}
-use lib.Dec.{T, eqb, eqb→eq, ltb}
+use lib.Dec.{T, eqb, eqb→eq}
 use lib.ListN.{getD}
-use lib.Ieee.{Float, nan, inf, fin, binary64, up, down, minus, fits, nanBits, toBits, ofBits}
+use lib.Ieee.{Float, nan, inf, fin, binary64, up, down, fits, nanBits, toBits, ofBits}
 use lib.Ieee.Bits.{ofBits-toBits}
 use lib.Ieee.Exact.{HasValue}
 use lib.Ieee.Fits.{and-l, and-r}

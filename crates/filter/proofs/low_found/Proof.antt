@@ -1,8 +1,8 @@
 -- `low_found` meets its contract: its tests are the definition's. Assumes nothing.
-use mathlib.Core.Path.{_≡_, refl, sym, _∙_}
+use mathlib.Core.Path.{_∙_}
 use lib.Ieee.{ofBits, neg}
 use Rattle.floats.proofs.Laws.Tests.{first, second}
-use Rattle.filter.specs.declared.Found.the-variants.{Fast, Slow, Low, High, One, Unsure}
+use Rattle.filter.specs.declared.Found.the-variants.{Slow, Low, Unsure}
 use Rattle.filter.specs.Plain.{lowFound}
 use Rattle.filter.proofs.low_found.Statement.{statement}
 use Rattle.filter.proofs.low_found.Tie as tie

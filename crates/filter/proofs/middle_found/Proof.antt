@@ -1,6 +1,6 @@
 -- `middle_found` meets its contract: for t from -124 to 124 the index is inside the table, k can be cast, and the scaled pattern is that of a normal f32's value. Assumes nothing.
 use borrow.Author.Needs.{needs}
-use mathlib.Core.Path.{_≡_, refl, sym, _∙_, ap, ap₂, subst}
+use mathlib.Core.Path.{_≡_, refl, sym, _∙_, ap, subst}
 use mathlib.Core.Bool.{Bool, true, false}
 use Prim.Native.Nat.{ℕ, _*_, _^_, _≤_, _<_}
 use native.Mathlib.Nat.{not-le-of-lt, lt-of-lt-of-le}
@@ -19,7 +19,6 @@ use Rattle.fast_path.specs.Scaling.{scaled, Within}
 use Rattle.fast_path.specs.Fast.{powerIndex, HasPower}
 use Rattle.fast_path.proofs.Index.{between-finite, Castable}
 use Rattle.bounds.proofs.Scales.{S, Bound}
-use Rattle.filter.specs.declared.Found.{Found}
 use Rattle.filter.specs.declared.Found.the-variants.{Unsure}
 use Rattle.filter.specs.Plain.{plainExpfPoly, partOf, restOf, plainPattern, roundedPattern, clearOfSwitches, isTiny, middleFound}
 use Rattle.filter.proofs.Limits.{middle-bound}
@@ -116,7 +115,7 @@ in-range c κs =
 
 passes-tests : tie.Need-returns-2
 unfolding middleFound at-start
-passes-tests c = c .rounded-pattern .ensures ∙ ap roundedPattern (pattern-is (c .before)) ∙ first _ _ Unsure (tests-pass (c .before))
+passes-tests c = c .rounded-pattern .ensures ∙ ap (roundedPattern _) (pattern-is (c .before)) ∙ first _ _ Unsure (tests-pass (c .before))
 
 fails-tests : tie.Need-returns-3
 unfolding middleFound

@@ -1,6 +1,5 @@
 -- `tiny_found` meets its contract: its test is the definition's. Assumes nothing.
-use mathlib.Core.Path.{_≡_, refl, sym, _∙_}
-use lib.Ieee.{ofBits, neg}
+use lib.Ieee.{ofBits}
 use Rattle.floats.proofs.Laws.Tests.{first, second}
 use Rattle.filter.specs.declared.Found.the-variants.{One, Unsure}
 use Rattle.filter.specs.Plain.{tinyFound}
