@@ -3,14 +3,12 @@
 -- Assumes nothing.
 use mathlib.Core.Path.{_≡_, refl, sym, ap, _∙_, subst}
 use mathlib.Core.Logic.{_⊎_, inl, inr}
-use mathlib.Core.Bool.{false}
 use Prim.Native.Nat.{ℕ, _+_, _*_, _^_, _≤_, _<_}
 use native.Mathlib.Nat.{le-trans, le-of-eq, lt-of-lt-of-le, mul-comm, mul-le-mul-right, mul-pos, eq-zero-or-pos, zero-mul, not-le-of-lt}
 use native.Mathlib.Omega.{arith}
 use lib.Dec.{T, lit≤, lit<}
 use lib.Pow.{pow-pos}
-use lib.IntN.{negsuc}
-use lib.Ieee.{Float, fin, binary32, binary64, fits, toBits, lt, le}
+use lib.Ieee.{Float, binary32, binary64, fits, toBits, lt, le}
 use lib.Ieee.Scale.{finite}
 use Rattle.floats.specs.Operations.{_⊕_, _⊗_}
 use Rattle.floats.specs.OnBits.{absolute}
@@ -33,6 +31,7 @@ use Rattle.bounds.proofs.Compared.{Positive, positive-bound}
 use Rattle.bounds.proofs.Exactly.{Off}
 use Rattle.bounds.proofs.OwnScale.{Nil, nil-bound, nil-sum, nil-product, Own, on-own}
 use Rattle.bounds.proofs.Apart.{apart-same, apart-turned, sum-apart, product-apart}
+use Rattle.slow_filter.specs.Plain.{keptFrom}
 use Rattle.slow_filter.proofs.Regrouped.{sums-apart}
 use Rattle.slow_filter.proofs.SlowFactor.{slowFactor, slow-is, slow-size, slow-beside, mul-turned}
 use Rattle.slow_filter.proofs.LowPart.{least-size, parted, Exact, Far, low-cases}
@@ -67,7 +66,7 @@ beside-of {μ} {D} {h} {l} c a least k some =
     go : (a b d m : ℕ) → a ≤ b + d → d * 2 ^ 53 ≤ m → a * 2 ^ 53 ≤ b * 2 ^ 53 + m
     go a b d m g h = omega arith
 
-module _ (x : Float) (f : T (fits binary32 x)) (p : T (finite x)) (h : T (lt minusOne x)) (l : T (le (fin false 1 (negsuc 28)) (absolute x))) where
+module _ (x : Float) (f : T (fits binary32 x)) (p : T (finite x)) (h : T (lt minusOne x)) (l : T (le keptFrom (absolute x))) where
   abbrev v : ℕ
   v = toBits binary64 (one ⊕ x)
 

@@ -29,6 +29,7 @@ use Rattle.bounds.proofs.Scales.{S, S-pos, one-is}
 use Rattle.bounds.proofs.Compared.{Positive, positive-bound, le-units, le-of-units, le-true, gt-of-not-le}
 use Rattle.bounds.proofs.Exactly.{ExactSum, exact-sum, fast-exact}
 use Rattle.bounds.proofs.OwnScale.{Nil}
+use Rattle.slow_filter.specs.Plain.{keptFrom}
 
 -- ---- 1 and x are whole numbers of one power of two, and few of them
 record Grid (x : Float) : Type 0 where
@@ -113,33 +114,30 @@ nil-of s = record { number = s .number; is = ap₂ _+_ (s .plus-same) (s .less-s
 abbrev tiny : Float
 tiny = fin false 1 (negsuc 52)
 
-abbrev least : Float
-least = fin false 1 (negsuc 28)
-
-tiny-is : Number tiny × Number least × (plus tiny + less least ≤ plus least + less tiny) × (plus least ≡ 2 ^ 1045) × (less least ≡ 0)
+tiny-is : Number tiny × Number keptFrom × (plus tiny + less keptFrom ≤ plus keptFrom + less tiny) × (2 ^ 1045 ≤ plus keptFrom) × (less keptFrom ≡ 0)
 unfolding fits
-tiny-is = (record { held = tt; plain = tt }, record { held = tt; plain = tt }, lit≤ tt, refl, refl)
+tiny-is = (record { held = tt; plain = tt }, record { held = tt; plain = tt }, lit≤ tt, lit≤ tt, refl)
 
-module _ (x : Float) (f : T (fits binary32 x)) (p : T (finite x)) (h : T (lt minusOne x)) (l : T (le least (absolute x))) where
+module _ (x : Float) (f : T (fits binary32 x)) (p : T (finite x)) (h : T (lt minusOne x)) (l : T (le keptFrom (absolute x))) where
   above : Above x
   above = above-of x f p h
 
-  at-least : plus least + less (absolute x) ≤ plus (absolute x) + less least
-  at-least = le-units least (absolute x) (tiny-is .1) (absolute-units x (above .number) .0) l
+  at-least : plus keptFrom + less (absolute x) ≤ plus (absolute x) + less keptFrom
+  at-least = le-units keptFrom (absolute x) (tiny-is .1) (absolute-units x (above .number) .0) l
 
   pub least-size : 2 ^ 1045 ≤ mag x
   least-size =
       let w = absolute-units x (above .number) in
-      go (plus least) (less least) (plus (absolute x)) (less (absolute x)) (mag x) (2 ^ 1045) (tiny-is .3) (tiny-is .4) (w .1) (w .2) at-least
+      go (plus keptFrom) (less keptFrom) (plus (absolute x)) (less (absolute x)) (mag x) (2 ^ 1045) (tiny-is .3) (tiny-is .4) (w .1) (w .2) at-least
     where
-      go : (p n q m x s : ℕ) → p ≡ s → n ≡ 0 → q ≡ x → m ≡ 0 → p + m ≤ q + n → s ≤ x
+      go : (p n q m x s : ℕ) → s ≤ p → n ≡ 0 → q ≡ x → m ≡ 0 → p + m ≤ q + n → s ≤ x
       go p n q m x s a b c d g = omega arith
 
   not-lost : le tiny (absolute (narrowed x)) ≡ true
   not-lost =
       let w = absolute-units x (above .number) in
       subst (λ (k : Float). le tiny (absolute k) ≡ true) (sym (narrowed-same x f))
-      (le-true (tiny-is .0) (w .0) (go (plus tiny) (less tiny) (plus least) (less least) (plus (absolute x)) (less (absolute x)) (tiny-is .2) at-least))
+      (le-true (tiny-is .0) (w .0) (go (plus tiny) (less tiny) (plus keptFrom) (less keptFrom) (plus (absolute x)) (less (absolute x)) (tiny-is .2) at-least))
     where
       go : (p n r l q m : ℕ) → p + l ≤ r + n → r + m ≤ q + l → p + m ≤ q + n
       go p n r l q m g h = omega arith

@@ -16,8 +16,8 @@ use Rattle.floats.proofs.Laws.Narrow.{low-finite, low-pattern, narrowed-fits}
 use Rattle.floats.proofs.Laws.Sums.{sum-patterns-mono}
 use Rattle.fast_path.specs.Scaling.{scaled}
 use Rattle.filter.proofs.Power.{Unscaled}
-use Rattle.slow_filter.specs.declared.SubnormalFound.{SubnormalFound}
-use Rattle.slow_filter.specs.declared.SubnormalFound.the-variants.{Rounded, Unsure}
+use Rattle.slow_filter.specs.declared.SlowFound.{SlowFound}
+use Rattle.slow_filter.specs.declared.SlowFound.the-variants.{Rounded, Unsure}
 use Rattle.slow_filter.specs.Subnormal.{BelowNormal, subnormalSum, roundedSubnormal, subnormalFound}
 
 -- ---- a pattern from 1/2 to 2, scaled by 2^k for a k from -150 to -127: nothing wraps
@@ -73,7 +73,7 @@ sum-same w w′ p q g h e =
     less w w′ h = omega arith
 
 -- ---- the answer that is found is what x narrows to
-abbrev Narrows : Float → SubnormalFound → Type 0
+abbrev Narrows : Float → SlowFound → Type 0
 Narrows x (Rounded v) = narrowed x ≡ v
 Narrows x Unsure = Unit {0}
 

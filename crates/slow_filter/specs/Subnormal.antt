@@ -7,8 +7,8 @@ use lib.IntN.{ℤ, pos, negsuc}
 use lib.Ieee.{binary32, binary64, toBits, ofBits}
 use Rattle.floats.specs.Operations.{_⊕_, f64}
 use Rattle.fast_path.specs.Scaling.{scaled}
-use Rattle.slow_filter.specs.declared.SubnormalFound.{SubnormalFound}
-use Rattle.slow_filter.specs.declared.SubnormalFound.the-variants.{Rounded, Unsure}
+use Rattle.slow_filter.specs.declared.SlowFound.{SlowFound}
+use Rattle.slow_filter.specs.declared.SlowFound.the-variants.{Rounded, Unsure}
 
 -- k is from -150 to -127: a value from 1/2 to 2 times 2^k is from 2^-151 to 2^-126
 abbrev pub BelowNormal : ℤ → Type 0
@@ -20,9 +20,9 @@ unfoldable pub subnormalSum : ℕ → ℕ
 subnormalSum w = toBits binary64 (f64 w ⊕ f64 0x39e0000000000000)
 
 -- the pattern w, scaled: where 2^25 less and 2^25 more are rounded to one f32, it is the answer; else nothing is sure
-unfoldable pub roundedSubnormal : ℕ → SubnormalFound
+unfoldable pub roundedSubnormal : ℕ → SlowFound
 roundedSubnormal w = cond (eqb (subnormalSum (w - 2 ^ 25)) (subnormalSum (w + 2 ^ 25))) (Rounded (ofBits binary32 (subnormalSum (w - 2 ^ 25) - 0x39e0000000000000))) Unsure
 
 -- for the pattern b before it is scaled
-unfoldable pub subnormalFound : ℕ → ℤ → SubnormalFound
+unfoldable pub subnormalFound : ℕ → ℤ → SlowFound
 subnormalFound b k = roundedSubnormal (scaled b k)

@@ -17,7 +17,7 @@ use Rattle.floats.proofs.Laws.Narrow.{low-finite, low-sum-number, low-sum-over,
 use Rattle.floats.proofs.Laws.Tests.{first, second}
 use Rattle.fast_path.specs.Scaling.{scaled, Within}
 use Rattle.fast_path.proofs.Lifted.{within-read, within-cast}
-use Rattle.slow_filter.specs.declared.SubnormalFound.the-variants.{Unsure}
+use Rattle.slow_filter.specs.declared.SlowFound.the-variants.{Unsure}
 use Rattle.slow_filter.specs.Subnormal.{BelowNormal, subnormalSum, roundedSubnormal, subnormalFound}
 use Rattle.slow_filter.proofs.Subnormal.{Below, scaled-below}
 use Rattle.slow_filter.proofs.rounded_subnormal.Statement.{statement}

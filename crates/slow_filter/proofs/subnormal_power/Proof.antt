@@ -1,8 +1,8 @@
 -- `subnormal_power` meets its contract: for t from -149.5 to -128 the index is inside the table, k can be cast and is from -150 to -127, and the plain pattern is that of a value from 1/2 to 2. Assumes
 -- nothing.
 use borrow.Author.Needs.{needs}
-use mathlib.Core.Path.{_≡_, refl, sym, _∙_, ap, subst}
-use mathlib.Core.Bool.{Bool, true, false}
+use mathlib.Core.Path.{_≡_, sym, _∙_, ap, subst}
+use mathlib.Core.Bool.{Bool, true}
 use Prim.Native.Nat.{ℕ, _*_, _^_, _≤_, _<_}
 use native.Mathlib.Nat.{not-le-of-lt}
 use lib.Dec.{T}
@@ -20,17 +20,14 @@ use Rattle.fast_path.specs.Fast.{powerIndex, HasPower}
 use Rattle.fast_path.proofs.Index.{Castable}
 use Rattle.filter.specs.Plain.{plainExpfPoly, partOf, restOf, plainPattern}
 use Rattle.filter.proofs.Middle.{plus-zero, whole-small, whole-castable, part-power}
-use Rattle.slow_filter.specs.declared.SubnormalFound.{SubnormalFound}
-use Rattle.slow_filter.specs.declared.SubnormalFound.the-variants.{Unsure}
+use Rattle.slow_filter.specs.declared.SlowFound.{SlowFound}
+use Rattle.slow_filter.specs.declared.SlowFound.the-variants.{Unsure}
 use Rattle.slow_filter.specs.Plain.{wideOfSwitches, subnormalPower}
 use Rattle.slow_filter.specs.Subnormal.{BelowNormal, subnormalFound}
-use Rattle.slow_filter.proofs.Reach.{reach-edges, reach-some, reach-k}
+use Rattle.slow_filter.proofs.Reach.{true-of, reach-edges, reach-some, reach-k}
 use Rattle.slow_filter.proofs.Plain.{plain-unscaled}
 use Rattle.slow_filter.proofs.subnormal_power.Statement.{statement}
 use Rattle.slow_filter.proofs.subnormal_power.Tie as tie
-
-true-of : (b : Bool) → T b → b ≡ true
-true-of true t = refl
 
 -- at the start
 module _ (c : tie.Start) where
@@ -114,7 +111,7 @@ in-range c κs =
     let u = plain-unscaled (start .args .t) (held start) (high start) (low start) (tests-pass c) in
     (subst (λ (w : ℕ). 1022 * 2 ^ 52 ≤ w) (sym (pattern-is c)) (u .low), (subst (λ (w : ℕ). w < 1024 * 2 ^ 52) (sym (pattern-is c)) (u .high), subst BelowNormal (sym (k-is c)) (below (c .before .before .before .before .before .before .before))))
 
-found : (t : Float) (w : ℕ) (k : ℤ) (r : SubnormalFound) → w ≡ plainPattern t → k ≡ toSigned 63 (nearestWhole t) → r ≡ subnormalFound w k → wideOfSwitches (partOf t) (restOf t) ≡ true → r ≡ subnormalPower t
+found : (t : Float) (w : ℕ) (k : ℤ) (r : SlowFound) → w ≡ plainPattern t → k ≡ toSigned 63 (nearestWhole t) → r ≡ subnormalFound w k → wideOfSwitches (partOf t) (restOf t) ≡ true → r ≡ subnormalPower t
 unfolding subnormalPower
 found t w k r e f g h = g ∙ ap (λ (n : ℕ). subnormalFound n k) e ∙ ap (subnormalFound (plainPattern t)) f ∙ first _ _ Unsure h
 
