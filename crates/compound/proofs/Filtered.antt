@@ -1,7 +1,7 @@
 -- What the filter finds, as answers of the table path: where what it found is right, the definition says the same (`by-fast`, `by-slow`, `by-edge`). Assumes nothing.
 use mathlib.Core.Path.{_≡_, refl, sym, _∙_, ap, subst}
 use mathlib.Core.Bool.{true, false}
-use lib.Ieee.{Float, lt, le}
+use lib.Ieee.{Float}
 use Rattle.floats.specs.Operations.{_⊗_}
 use Rattle.special.specs.Special as Special
 use Rattle.fast_path.specs.Fast.{compoundfLog2p1Fast}
@@ -10,7 +10,7 @@ use Rattle.filter.specs.declared.Found.{Found}
 use Rattle.filter.specs.declared.Found.the-variants as found
 use Rattle.filter.specs.Right.{Right}
 use Rattle.compound.specs.Answer.{Outcome, edge, fast, slow}
-use Rattle.compound.specs.Route.{decided, fromLogarithm, tablePath}
+use Rattle.compound.specs.Route.{decided, tablePath}
 use Rattle.compound.proofs.Chosen.{known}
 
 -- what was found of x and y is r

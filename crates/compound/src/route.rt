@@ -13,8 +13,9 @@ use slow_path::compoundf_accurate;
 ghost use mathlib.Core.Path.{_≡_};
 ghost use mathlib.Core.Bool.{true, false};
 ghost use lib.Dec.{T};
-ghost use lib.IntN.{pos};
-ghost use lib.Ieee.{binary32, fin, lt, ofBits};
+ghost use lib.IntN.{pos, negsuc};
+ghost use lib.Ieee.{binary32, fin, le, lt, ofBits};
+ghost use Rattle.floats.specs.OnBits.{absolute};
 ghost use Rattle.compound.specs.Answer.{outcome};
 ghost use Rattle.fast_path.specs.Fast.{exp2Fast};
 ghost use Rattle.compound.specs.Route as spec;
@@ -58,11 +59,22 @@ fn as_written(x: f64, y: f64) -> Answer
     from_logarithm(x, y, l * y)
 }
 
-// The same for the f32s of the patterns nx and ny: by the filter where it settles the answer.
+// Whether 1 + x is 1: |x| is at most 2^-54, for the f32 x of the pattern nx.
+fn is_absorbed(nx: u32) -> bool
+    ensures { λ r. ⌜ r ≡ le (absolute (ofBits binary32 nx)) (fin false 1 (negsuc 53)) ⌝ }
+{
+    nx % 0x8000_0000 <= 0x2480_0000
+}
+
+// The same for the f32s of the patterns nx and ny: by the filter where it settles the answer. An x that
+// is absorbed is told first, since the processor then need not wait for a logarithm to know the way.
 pub(crate) fn table_path(nx: u32, ny: u32) -> Answer
     requires { ⌜ spec.Tabled (ofBits binary32 nx) (ofBits binary32 ny) ⌝ }
     ensures { λ r. ⌜ outcome r ≡ spec.tablePath (ofBits binary32 nx) (ofBits binary32 ny) ⌝ }
 {
+    if is_absorbed(nx) {
+        return Answer::Edge(1.0);
+    }
     let x = widen_bits(nx);
     let y = widen_bits(ny);
     match filtered(x, y) {

@@ -70,7 +70,7 @@ size-lt : (n : ℕ) → n < 2 ^ 32 → (c : Float) (b : ℕ) → toBits binary32
     → ltb (n % 2 ^ 31) b ≡ lt (absolute (ofBits binary32 n)) c
 size-lt = compared lt ltb (λ n c. lt-of-bits binary32 n c) shift-ltb (λ c. unfold lt in refl) (λ a b k. le-ltb a b (omega (arith, k)))
 
-size-le : (n : ℕ) → n < 2 ^ 32 → (c : Float) (b : ℕ) → toBits binary32 c ≡ b → b ≤ 0x7f80_0000 → T (fits binary32 c) → T (not (isNan c))
+pub size-le : (n : ℕ) → n < 2 ^ 32 → (c : Float) (b : ℕ) → toBits binary32 c ≡ b → b ≤ 0x7f80_0000 → T (fits binary32 c) → T (not (isNan c))
     → leb (n % 2 ^ 31) b ≡ le (absolute (ofBits binary32 n)) c
 size-le = compared le leb (λ n c. le-of-bits binary32 n c) shift-leb (λ c. unfold le lt eq in refl) lt-leb
 

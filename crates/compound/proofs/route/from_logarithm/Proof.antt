@@ -1,19 +1,18 @@
 -- `from_logarithm` meets its contract: its tests are the definition's, and between -150 and 128 the powers have their entries. Assumes nothing.
 use borrow.Author.Needs.{needs}
-use mathlib.Core.Path.{_≡_, refl, sym, _∙_, ap, subst}
-use mathlib.Core.Bool.{Bool, true, false, cond, not, _&&_, _||_, true≢false}
+use mathlib.Core.Path.{_≡_, refl, sym, _∙_, subst}
+use mathlib.Core.Bool.{true, false, not, _&&_, _||_, true≢false}
 use Prim.Native.Nat.{ℕ, _+_, _*_, _%_, _^_, _≤_, _<_}
 use native.Mathlib.Omega.{arith}
 use borrow.Author.Tests.{eq-eqb, le-leb, lt-leb, lt-ltb}
 use lib.Dec.{T, ltb, leb, eqb, lt→ltb}
 use lib.IntN.{pos}
-use lib.Ieee.{Float, nan, inf, fin, binary64, up, down, toBits, ofBits, nanBits, neg, lt, le, eq, isNan}
+use lib.Ieee.{Float, nan, inf, fin, up, down, ofBits, nanBits, neg, lt, le, eq, isNan}
 use lib.Ieee.Fits.{down-pos}
 use denote.Floats.{passes}
 use Rattle.floats.proofs.Laws.Compare.{Order, less, same, more, order, or-true}
-use Rattle.compound.specs.Answer.{Outcome, edge, outcome}
+use Rattle.compound.specs.Answer.{outcome}
 use Rattle.special.specs.Special as Special
-use Rattle.fast_path.specs.Fast.{exp2Fast}
 use Rattle.compound.proofs.Chosen.{known}
 use Rattle.compound.proofs.route.from_logarithm.Statement.{statement}
 use Rattle.compound.proofs.route.from_logarithm.Tie as tie
