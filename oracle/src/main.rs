@@ -1,4 +1,4 @@
-// The Rust beside it: compares the exports of our static library with the crate's own functions,
+// The Rust beside it: compares the exports of our static libraries with the crate's own functions,
 // value by value. Without an argument in the short form, with `long` in the long one; with
 // `compound` only the answers for pairs. With `bench` it measures both instead, with `vectors` it
 // writes the files that the crates' programs are run with, with `answers` it answers the pairs that

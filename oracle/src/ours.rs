@@ -1,5 +1,5 @@
-// Our side: the exports of the static library, declared by hand, and those of the double-doubles in the
-// crate's own type. None has a precondition.
+// Our side: the exports of the static libraries, declared by hand, and those of the double-doubles in
+// the crate's own type. None has a precondition.
 
 use crate::double_double::DoubleDouble;
 
