@@ -217,7 +217,7 @@ positive-at {a} {b} c d p t u = record {
 }
 
 -- ---- the pattern by the exponent's field: for what is from 2^(52 + i) to 2^(53 + i) units, its digits are the number of 2^i units in it
-bits-by-field : (i : ℕ) (x : Float) → Number x → less x ≡ 0 → 2 ^ (52 + i) ≤ plus x → plus x < 2 ^ suc (52 + i) → toBits binary64 x ≡ i * 2 ^ 52 + plus x / 2 ^ i
+pub bits-by-field : (i : ℕ) (x : Float) → Number x → less x ≡ 0 → 2 ^ (52 + i) ≤ plus x → plus x < 2 ^ suc (52 + i) → toBits binary64 x ≡ i * 2 ^ 52 + plus x / 2 ^ i
 bits-by-field i nan n c l m = absurd (n .plain)
 bits-by-field i (inf s) n c l m = absurd (n .plain)
 bits-by-field i (fin true k e) n c l m = absurd (not-le-of-lt (pow-pos (52 + i)) l)

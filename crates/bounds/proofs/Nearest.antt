@@ -1,26 +1,29 @@
--- Signs by units (`sign-above`, `sign-below`), and the nearest whole value: it stays within a whole bound (`whole-bound`), and a nearest whole value that is nearer than a half to
--- another f64 of the same sign is that one's as well (`whole-shared`). Assumes nothing.
+-- Signs by units (`sign-above`, `sign-below`), and the nearest whole value: it stays within a whole bound (`whole-bound`), a nearest whole value that is nearer than a half to
+-- another f64 of the same sign is that one's as well (`whole-shared`), and what is left over it is exact (`part-exact`). Assumes nothing.
 use mathlib.Core.Path.{_≡_, refl, sym, ap, ap₂, _∙_, subst}
-use mathlib.Core.Bool.{Bool, true, false}
-use Prim.Native.Nat.{ℕ, _+_, _*_, _^_, _≤_, _<_}
-use native.Mathlib.Nat.{lt-irrefl, lt-of-lt-of-le, le-trans, le-of-eq, mul-lt-mul-of-pos-right, mul-one, mul-assoc, mul-comm, mul-right-comm}
+use mathlib.Core.Bool.{Bool, true, false, not}
+use Prim.Native.Nat.{ℕ, zero, suc, _+_, _-_, _*_, _^_, _≤_, _<_}
+use native.Mathlib.Nat.{lt-irrefl, lt-of-lt-of-le, lt-of-le-of-lt, le-trans, le-of-eq, le-of-lt, le-of-mul-le-mul-right, mul-lt-mul-of-pos-right, mul-one, mul-assoc, mul-comm, mul-right-comm, add-zero, zero-add}
 use native.Mathlib.Omega.{arith}
-use lib.Dec.{T, ltb, ltb→lt, lit<}
+use lib.Dec.{T, leb, ltb, leb→le, nleb→lt, ltb→lt, lit≤, lit<}
+use lib.Pow.{pow-add, pow-pos}
 use lib.IntN.{ℤ}
-use lib.Ieee.{Float, nan, inf, fin, binary64, up, down, round, fits}
+use lib.Ieee.{Float, nan, inf, fin, binary64, up, down, round, neg, sub, fits}
 use lib.Ieee.Exact.{HasValue}
 use lib.Ieee.Fits.{down-pos}
 use lib.Ieee.Nearest.{closest, closest-same}
 use Rattle.floats.specs.Narrowing.{nearestWhole}
-use Rattle.floats.proofs.Laws.Closest.{closest-unique}
+use Rattle.floats.specs.Operations.{_⊖_}
+use Rattle.floats.proofs.Laws.Closest.{closest-above, closest-unique}
 use Rattle.floats.proofs.Laws.Sums.{above, under, whole-at-most}
-use Rattle.floats.proofs.Laws.Units.{HasSign, exponent, in-units}
+use Rattle.floats.proofs.Laws.Units.{HasSign, exponent, in-units, fits-digits}
 use Rattle.floats.proofs.Laws.Whole.{nearest-whole-exact}
 use Rattle.floats.proofs.Laws.Cast.{whole-fits}
-use Rattle.bounds.proofs.Values.{perOne, perOne-pos, plus, less, Number, Units, by-value}
+use Rattle.bounds.proofs.Values.{perOne, perOne-pos, plus, less, mag, mag-of, Number, neg-plus, neg-less, neg-number, Units, by-value}
 use Rattle.bounds.proofs.Scales.{S, S-pos, one-is, unit, Bound}
 use Rattle.bounds.proofs.Distances.{Apart}
 use Rattle.bounds.proofs.Compared.{size-in-units, units-in-size}
+use Rattle.bounds.proofs.Exactly.{ExactSum, exact-sum}
 
 -- ---- the sign of what is above 0, and of what is below
 pub sign-above : (x : Float) → 0 < plus x → HasSign false x
@@ -36,7 +39,7 @@ sign-below (fin true m e) h = refl
 sign-below (fin false m e) h = absurd (lt-irrefl 0 h)
 
 -- ---- in units
-whole-value : (s : Bool) (m : ℕ) (e : ℤ) → T (fits binary64 (fin s m e)) → Units s (closest (m * up e) (down e) * perOne) (nearestWhole (fin s m e))
+pub whole-value : (s : Bool) (m : ℕ) (e : ℤ) → T (fits binary64 (fin s m e)) → Units s (closest (m * up e) (down e) * perOne) (nearestWhole (fin s m e))
 whole-value s m e t = by-value (nearestWhole (fin s m e)) s (closest (m * up e) (down e) * perOne) (whole-fits (fin s m e)) (go (nearestWhole (fin s m e)) (nearest-whole-exact s m e t))
   where
     go : (k : Float) → HasValue k s (closest (m * up e) (down e)) 1 → HasValue k s (closest (m * up e) (down e) * perOne) perOne
@@ -100,3 +103,72 @@ whole-shared {K} s (fin u m e) (fin v n d) p q a b c t =
 
     under-it : (p n q m d w : ℕ) → q + n ≤ m + p + d → d * 2 < w → (n + q) * 2 < (p + m) * 2 + w
     under-it p n q m d w g h = omega arith
+
+-- ---- what is left over the nearest whole value
+-- that value is at most twice as large
+twice-at-most : (a w : ℕ) → closest a w * w ≤ 2 * a
+twice-at-most a w = go (closest a w) (closest-above a w)
+  where
+    go : (n : ℕ) → n * w * 2 ≤ a * 2 + w → n * w ≤ 2 * a
+    go zero g = omega arith
+    go (suc n) g = omega arith
+
+-- M × 2^j and K × 2^j with the sign s: what they differ by is exact
+few : (M K : ℕ) → M < 2 ^ 53 → K ≤ 2 * M → (M < K + 2 ^ 53) × (K < M + 2 ^ 53)
+few M K h g = (omega arith, omega arith)
+
+differ : {x k : Float} (s : Bool) (j M K : ℕ) → j ≤ 1900 → Units s (M * 2 ^ j) x → Units s (K * 2 ^ j) k → M < 2 ^ 53 → K ≤ 2 * M → ExactSum x (neg k)
+differ {x} {k} false j M K l p q h g =
+    exact-sum j M K l (p .number) (neg-number (q .number)) (ap₂ _+_ (p .plus-is) (neg-plus k ∙ q .less-is) ∙ add-zero (M * 2 ^ j)) (ap₂ _+_ (p .less-is) (neg-less k ∙ q .plus-is) ∙ zero-add (K * 2 ^ j)) (few M K h g .0) (few M K h g .1)
+differ {x} {k} true j M K l p q h g =
+    exact-sum j K M l (p .number) (neg-number (q .number)) (ap₂ _+_ (p .plus-is) (neg-plus k ∙ q .less-is) ∙ zero-add (K * 2 ^ j)) (ap₂ _+_ (p .less-is) (neg-less k ∙ q .plus-is) ∙ add-zero (M * 2 ^ j)) (few M K h g .1) (few M K h g .0)
+
+-- the exact difference: x is k and what is left
+pub record Left (x k : Float) : Type 0 where
+  pub number : Number (x ⊖ k)
+  pub is : plus (x ⊖ k) + less x + plus k ≡ less (x ⊖ k) + plus x + less k
+
+-- a and b at 2^j, and a × 2^i with fewer of them
+cut : (a b j : ℕ) → a * 2 ^ j ≤ 2 * (b * 2 ^ j) → a ≤ 2 * b
+cut a b j h = le-of-mul-le-mul-right (le-trans h (le-of-eq (sym (mul-assoc 2 b (2 ^ j))))) (pow-pos j)
+
+spread : (a i j : ℕ) → j ≤ i → a * 2 ^ i ≡ a * 2 ^ (i - j) * 2 ^ j
+spread a i j h = ap (λ (d : ℕ). a * 2 ^ d) (sym (back i j h)) ∙ ap (λ (d : ℕ). a * d) (pow-add 2 (i - j) j) ∙ sym (mul-assoc a (2 ^ (i - j)) (2 ^ j))
+  where
+    back : (i j : ℕ) → j ≤ i → i - j + j ≡ i
+    back i j h = omega arith
+
+-- X of 2^y, at most 2^20 in size, and its nearest whole number of K
+exact-from : {x k : Float} (s : Bool) (m y K : ℕ) → Units s (m * 2 ^ y) x → Units s (K * 2 ^ 1074) k → m < 2 ^ 53 → m * 2 ^ y ≤ 2 ^ 20 * 2 ^ 1074 → K * 2 ^ 1074 ≤ 2 * (m * 2 ^ y) → ExactSum x (neg k)
+exact-from {x} {k} s m y K p q d h g = go (leb y 1074) (leb→le y 1074) (nleb→lt y 1074)
+  where
+    small : (a : ℕ) → a * 2 ^ 1074 ≤ 2 ^ 20 * 2 ^ 1074 → a < 2 ^ 53
+    small a h =
+        let l : a ≤ 2 ^ 20 = le-of-mul-le-mul-right h (pow-pos 1074) in
+        lt-of-le-of-lt l (lit< tt)
+
+    go : (b : Bool) → (T b → y ≤ 1074) → (T (not b) → 1074 < y) → ExactSum x (neg k)
+    go true f _ =
+        let same = spread K 1074 y (f tt) in
+        differ s y m (K * 2 ^ (1074 - y)) (le-trans (f tt) (lit≤ tt)) p (subst (λ (i : ℕ). Units s i k) same q) d (cut (K * 2 ^ (1074 - y)) m y (subst (λ (i : ℕ). i ≤ 2 * (m * 2 ^ y)) same g))
+    go false _ f =
+        let same = spread m y 1074 (le-of-lt (f tt)) in
+        differ s 1074 (m * 2 ^ (y - 1074)) K (lit≤ tt) (subst (λ (i : ℕ). Units s i x) same p) q (small (m * 2 ^ (y - 1074)) (subst (λ (i : ℕ). i ≤ 2 ^ 20 * 2 ^ 1074) same h))
+        (cut K (m * 2 ^ (y - 1074)) 1074 (subst (λ (i : ℕ). K * 2 ^ 1074 ≤ 2 * i) same g))
+
+left-of : {x k : Float} → ExactSum x (neg k) → Left x k
+unfolding sub
+left-of {x} {k} d = record {
+  number = d .number;
+  is = ap (λ (i : ℕ). plus (x ⊖ k) + less x + i) (sym (neg-less k)) ∙ d .is ∙ ap (λ (i : ℕ). less (x ⊖ k) + plus x + i) (neg-plus k);
+}
+
+pub part-exact : (x : Float) → Number x → mag x ≤ 2 ^ 20 * perOne → Left x (nearestWhole x)
+unfolding perOne
+part-exact nan n h = absurd (n .plain)
+part-exact (inf s) n h = absurd (n .plain)
+part-exact (fin s m e) n h =
+    let y = exponent 1074 e in
+    left-of
+    (exact-from s m y (closest (m * up e) (down e)) (record { number = n; plus-is = refl; less-is = refl }) (whole-value s m e (n .held)) (fits-digits binary64 s m e (n .held)) (subst (λ (i : ℕ). i ≤ 2 ^ 20 * 2 ^ 1074) (mag-of s (m * 2 ^ y)) h)
+    (subst (λ (i : ℕ). i * 2 ^ 1074 ≤ 2 * (m * 2 ^ y)) (sym (closest-in-units s m e (n .held))) (twice-at-most (m * 2 ^ y) (2 ^ 1074))))

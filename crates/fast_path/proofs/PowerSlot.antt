@@ -21,9 +21,9 @@ use Rattle.bounds.proofs.Distances.{Apart, sum-off}
 use Rattle.bounds.proofs.Compared.{Positive, tested-positive, positive-at, positive-bound, positive-add, place-in-32nds, quotient}
 
 -- ---- the values of the table, in units: (i - 16)/32
-record Exponent (i : ℕ) (x : Float) : Type 0 where
-  number : Number x
-  is : plus x + 16 * (2 ^ 48 * S) ≡ less x + i * (2 ^ 48 * S)
+pub record Exponent (i : ℕ) (x : Float) : Type 0 where
+  pub number : Number x
+  pub is : plus x + 16 * (2 ^ 48 * S) ≡ less x + i * (2 ^ 48 * S)
 
 -- a / 32 is a × 2^48 on the scale of 1
 on-scale : (x : Float) (s : Bool) (a : ℕ) → T (fits binary64 x) → HasValue x s a 32 → Units s (a * (2 ^ 48 * S)) x
@@ -38,7 +38,7 @@ on-scale (fin u m e) s a t v =
     go : (x a d k : ℕ) → x * 32 ≡ a * d → x * (32 * k) ≡ a * k * d
     go x a d k e = sym (mul-assoc x 32 k) ∙ ap (λ (z : ℕ). z * k) e ∙ mul-right-comm a d k
 
-exponent-of : (i : ℕ) → i < 33 → Exponent i (entry compoundfExp2T i)
+pub exponent-of : (i : ℕ) → i < 33 → Exponent i (entry compoundfExp2T i)
 unfolding entry
 exponent-of i h = go (ltb i 16) (ltb→lt i 16) (nltb→le i 16) (on-scale (entry compoundfExp2T i) (ltb i 16) (16 - i + (i - 16)) (ofBits-fits binary64 _) (exp2t-rule i h))
   where

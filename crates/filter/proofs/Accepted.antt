@@ -24,7 +24,7 @@ pub record Accepted (b b′ : ℕ) (k : ℤ) : Type 0 where
   pub narrows : narrowed (f64 (scaled b k)) ≡ ofBits binary32 ((scaled b′ k + 0x10000000) / 0x20000000 - 0x1c0000000)
 
 -- ---- a pattern from 2^-41 to 2, scaled by 2^k for a k from -124 to 124: nothing wraps
-within-more : (k : ℤ) → Within 124 k → Within 1000 k
+pub within-more : (k : ℤ) → Within 124 k → Within 1000 k
 within-more (pos n) h = omega (arith, h)
 within-more (negsuc n) h = omega (arith, h)
 

@@ -8,6 +8,7 @@ pub mod Switches
 pub mod Power
 pub mod Accepted
 pub mod Middle
+pub mod OneStep
 pub mod Times
 pub mod Near
 pub mod Edges

@@ -9,6 +9,7 @@ use native.Mathlib.Omega.{arith}
 use lib.Dec.{T, lit≤, lit<}
 use lib.IntN.{ℤ, pos}
 use lib.Ieee.{Float, nan, inf, fin, binary64, fits, neg, le, lt, ofBits, toSigned}
+use lib.Ieee.Bits.{is-true}
 use lib.Ieee.Fits.{sub-fits}
 use lib.Ieee.Scale.{finite}
 use Rattle.floats.specs.Operations.{_⊕_, _⊖_, f64}
@@ -28,8 +29,8 @@ use Rattle.bounds.proofs.Scales.{S, one-is, Bound, at}
 use Rattle.bounds.proofs.Distances.{apart-at}
 use Rattle.bounds.proofs.Apart.{apart-same}
 use Rattle.bounds.proofs.Compared.{units-in-size, units-of-not-lt}
-use Rattle.filter.specs.Plain.{partOf, restOf, plainPattern, partEnd, restEnd, clearOfSwitches, isTiny}
-use Rattle.filter.proofs.Limits.{InsideEdges, inside-edges, part-bound, rest-bound}
+use Rattle.filter.specs.Plain.{partOf, restOf, plainPattern, partEnd, restEnd, clearOfIndex, clearOfSwitches, isTiny}
+use Rattle.filter.proofs.Limits.{InsideEdges, inside-edges, middle-bound, part-bound, rest-bound}
 use Rattle.filter.proofs.Power.{Unscaled, power-beside}
 use Rattle.filter.proofs.Accepted.{lifted-low, lifted-high, scaled-is}
 
@@ -97,6 +98,10 @@ signed nan h = absurd h
 signed (inf s) h = absurd h
 signed (fin s m e) h = record { sign = s; has = refl }
 
+-- t, as the tests leave it
+pub bounded : (t : Float) → T (fits binary64 t) → T (le (fin true 31 (pos 2)) t) → T (le t (fin false 31 (pos 2))) → Bound S (124 * 2 ^ 53) t
+bounded t f g h = middle-bound (record { held = f; plain = between-finite (fin true 31 (pos 2)) t (fin false 31 (pos 2)) tt tt g h }) (is-true _ g) (is-true _ h)
+
 -- between the edges k can be cast, and what is left of t has a power
 module _ (t : Float) (f : T (fits binary64 t)) (edges : InsideEdges t) where
   above : T (lt (fin true 75 (pos 1)) t)
@@ -139,7 +144,7 @@ module _ (t : Float) (b : Bound S (124 * 2 ^ 53) t) where
 
   -- clear of the switches
   pub switch-bounds : clearOfSwitches (partOf t) (restOf t) ≡ true → Bound S (2 ^ 52 - 2 ^ 23) (partOf t) × Bound S (2 ^ 47 - 2 ^ 23) (restOf t)
-  unfolding clearOfSwitches ofBits neg
+  unfolding clearOfSwitches clearOfIndex ofBits neg
   switch-bounds e =
       let o = four (le (partOf t) partEnd) (le (neg partEnd) (partOf t)) (le (restOf t) restEnd) (le (neg restEnd) (restOf t)) e in
       (part-bound (of-tests (partOf t) (neg partEnd) partEnd part-fits tt tt (o .1) (o .0)) (o .0) (o .1), rest-bound (of-tests (restOf t) (neg restEnd) restEnd rest-fits tt tt (o .3) (o .2)) (o .2) (o .3))

@@ -82,8 +82,11 @@ partEnd = f64 0x3fdfffffff000000
 abbrev pub restEnd : Float
 restEnd = f64 0x3f8fffffe0000000
 
+unfoldable pub clearOfIndex : Float → Bool
+clearOfIndex rest = le rest restEnd && le (neg restEnd) rest
+
 unfoldable pub clearOfSwitches : Float → Float → Bool
-clearOfSwitches part rest = (le part partEnd && le (neg partEnd) part) && (le rest restEnd && le (neg restEnd) rest)
+clearOfSwitches part rest = (le part partEnd && le (neg partEnd) part) && clearOfIndex rest
 
 -- t from -124 to 124
 unfoldable pub middleFound : Float → Found

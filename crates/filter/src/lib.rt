@@ -68,20 +68,28 @@ fn rounded_pattern(t: f64, w: u64) -> Found
     near_midpoint(t, w)
 }
 
+// Whether no switch of the index is near.
+fn clear_of_index(rest: f64) -> bool
+    ensures { λ r. ⌜ r ≡ spec.clearOfIndex rest ⌝ }
+{
+    // 1/64 - 2^-30
+    (rest <= f64::from_bits(0x3f8f_ffff_e000_0000))
+        & (rest >= f64::from_bits(0xbf8f_ffff_e000_0000))
+}
+
 // Whether no switch of k or of the index is near.
 fn clear_of_switches(part: f64, rest: f64) -> bool
     ensures { λ r. ⌜ r ≡ spec.clearOfSwitches part rest ⌝ }
 {
-    // 1/2 - 2^-30 and 1/64 - 2^-30
+    // 1/2 - 2^-30
     let of_k = (part <= f64::from_bits(0x3fdf_ffff_ff00_0000))
         & (part >= f64::from_bits(0xbfdf_ffff_ff00_0000));
-    let of_index = (rest <= f64::from_bits(0x3f8f_ffff_e000_0000))
-        & (rest >= f64::from_bits(0xbf8f_ffff_e000_0000));
-    of_k & of_index
+    of_k & clear_of_index(rest)
 }
 
-// For t from -124 to 124 that is not tiny.
-fn middle_found(t: f64) -> Found
+// For t from -124 to 124 that is not tiny, in two steps: the nearest whole number, and the nearest 32nd
+// to what is left.
+fn in_two_steps(t: f64) -> Found
     requires { ⌜ T (le (fin true 31 (pos 2)) t) ⌝ ∗ ⌜ T (le t (fin false 31 (pos 2))) ⌝ ∗ ⌜ spec.isTiny t ≡ false ⌝ }
     ensures { λ r. ⌜ r ≡ spec.middleFound t ⌝ }
 {
@@ -97,6 +105,26 @@ fn middle_found(t: f64) -> Found
         return rounded_pattern(t, scaled(plain_power(i, rest), k as i64));
     }
     Found::Unsure
+}
+
+// The same in one step, where the nearest 32nd is not halfway between two whole numbers and no switch of
+// the index is near.
+fn middle_found(t: f64) -> Found
+    requires { ⌜ T (le (fin true 31 (pos 2)) t) ⌝ ∗ ⌜ T (le t (fin false 31 (pos 2))) ⌝ ∗ ⌜ spec.isTiny t ≡ false ⌝ }
+    ensures { λ r. ⌜ r ≡ spec.middleFound t ⌝ }
+{
+    // 1.5 * 2^47, so that the sum is rounded to a whole number of 32nds, and its pattern ends in them
+    let sum = 211106232532992.0 + t;
+    let rest = t - (sum - 211106232532992.0);
+    // with 16 more they are 32 * k and the index
+    let n = f64::to_bits(sum) + 16;
+    let i = n % 32;
+    if (i > 0) & clear_of_index(rest) {
+        let power = plain_power(i, rest);
+        let k = n / 32 % 0x1000 * 0x10_0000_0000_0000;
+        return rounded_pattern(t, std::num::wrapping_add_u64(power, k));
+    }
+    in_two_steps(t)
 }
 
 // For t below -124.

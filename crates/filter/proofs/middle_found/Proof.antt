@@ -1,128 +1,79 @@
--- `middle_found` meets its contract: for t from -124 to 124 the index is inside the table, k can be cast, and the scaled pattern is that of a normal f32's value. Assumes nothing.
+-- `middle_found` meets its contract: in one step it finds what the definition finds in two, and else it leaves it to those. Assumes nothing.
 use borrow.Author.Needs.{needs}
-use mathlib.Core.Path.{_≡_, refl, sym, _∙_, ap, subst}
-use mathlib.Core.Bool.{Bool, true, false}
-use Prim.Native.Nat.{ℕ, _*_, _^_, _≤_, _<_}
-use native.Mathlib.Nat.{not-le-of-lt, lt-of-lt-of-le}
-use lib.Dec.{T, lit<}
-use lib.IntN.{ℤ, pos}
-use lib.Ieee.{Float, fin, binary64, fits, le, toBits, ofBits, toSigned, inSigned}
-use mir.Syntax.{w64}
-use mir.Val.{toZ, ofZ}
+use mathlib.Core.Path.{_≡_, sym, _∙_, ap, subst}
+use mathlib.Core.Bool.{Bool, true, false, true≢false, not, _&&_}
+use Prim.Native.Nat.{ℕ, _*_, _%_, _^_, _≤_, _<_}
+use native.Mathlib.Nat.{lt-of-lt-of-le}
+use lib.Dec.{T, ltb, ltb→lt, lit<}
+use lib.Ieee.{Float, nan, inf, fin, isNan, ofBits, toSigned}
+use lib.Ieee.Scale.{finite}
 use denote.Floats.{passes}
-use Rattle.floats.specs.Operations.{_⊕_, _⊖_, _⊗_}
-use Rattle.floats.proofs.Laws.SmallWhole.{plusZero}
+use Rattle.floats.specs.Operations.{_⊕_, _⊖_}
 use Rattle.floats.specs.Narrowing.{nearestWhole}
-use Rattle.floats.proofs.Laws.Tests.{first, second}
-use Rattle.tables.specs.Tables.{entry, pairEntry, compoundfExp2T, compoundfExp2U}
-use Rattle.fast_path.specs.Scaling.{scaled, Within}
-use Rattle.fast_path.specs.Fast.{powerIndex, HasPower}
-use Rattle.fast_path.proofs.Index.{between-finite, Castable}
+use Rattle.floats.proofs.Laws.Tests.{first}
+use Rattle.fast_path.specs.Scaling.{scaled}
+use Rattle.bounds.proofs.Values.{mag}
 use Rattle.bounds.proofs.Scales.{S, Bound}
 use Rattle.filter.specs.declared.Found.the-variants.{Unsure}
-use Rattle.filter.specs.Plain.{plainExpfPoly, partOf, restOf, plainPattern, roundedPattern, clearOfSwitches, isTiny, middleFound}
-use Rattle.filter.proofs.Limits.{middle-bound}
-use Rattle.filter.proofs.Middle.{not-small, plus-zero, edges-of, whole-small, whole-castable, part-power, plain-range}
+use Rattle.filter.specs.Plain.{partOf, restOf, plainPattern, roundedPattern, clearOfIndex, clearOfSwitches, middleFound}
+use Rattle.filter.proofs.Middle.{bounded, not-small, plain-range}
+use Rattle.filter.proofs.OneStep.{wide, nearest32nd, digits32, sum-range, digits-fit, clear-of-both, same-pattern}
 use Rattle.filter.proofs.middle_found.Statement.{statement}
 use Rattle.filter.proofs.middle_found.Tie as tie
-
--- t, as the test leaves it
-true-of : (b : Bool) → T b → b ≡ true
-true-of true t = refl
-
-bounded : (t : Float) → T (fits binary64 t) → T (le (fin true 31 (pos 2)) t) → T (le t (fin false 31 (pos 2))) → Bound S (124 * 2 ^ 53) t
-bounded t f g h = middle-bound (record { held = f; plain = between-finite (fin true 31 (pos 2)) t (fin false 31 (pos 2)) tt tt g h }) (true-of _ g) (true-of _ h)
 
 -- at the start
 module _ (c : tie.Start) where
   start : Bound S (124 * 2 ^ 53) (c .args .t)
   start = bounded (c .args .t) (passes _ (c .good .0 .1)) (c .pre .0) (c .pre .1 .0)
 
-  apart : isTiny (c .args .t) ≡ false
-  apart = c .pre .1 .1
+  nonzero : 0 < mag (c .args .t)
+  nonzero = lt-of-lt-of-le (lit< tt) (not-small (start .number) (c .pre .1 .1))
 
--- k is the nearest whole number, +0 for -0
-module _ (c : tie.After-round-ties-even-small) where
-  part-is : c .before .args .t ⊖ c .round-ties-even-small .result ≡ partOf (c .before .args .t)
-  unfolding partOf
-  part-is = ap (λ (k : Float). c .before .args .t ⊖ k) (c .round-ties-even-small .ensures) ∙ plus-zero (c .before .args .t) (lt-of-lt-of-le (lit< tt) (not-small (start (c .before) .number) (apart (c .before))))
+-- the sum is a number, and its pattern is not too large
+number : tie.Need-float-to-bits-n
+unfolding ofBits isNan
+number c = not-nan (wide ⊕ c .args .t) (sum-range (c .args .t) (start c) .number .plain)
+  where
+    not-nan : (x : Float) → T (finite x) → T (not (isNan x))
+    not-nan nan h = h
+    not-nan (inf s) h = tt
+    not-nan (fin s m e) h = tt
 
-  k-castable : Castable (nearestWhole (c .before .args .t))
-  k-castable = whole-castable (c .before .args .t) (start (c .before) .number .held) (edges-of (start (c .before)))
-
-small : tie.Need-round-ties-even-small-requires
-small c κs = whole-small (c .args .t) (start c .number .held) (edges-of (start c))
-
--- what is left of t has a power
-has-power : tie.Need-power-index-requires
-has-power c κs = subst HasPower (sym (part-is c)) (part-power (c .before .args .t) (start (c .before) .number .held) (edges-of (start (c .before))))
-
-never : tie.Need-returns
-never c =
-    let nearest = c .before .before in
-    absurd (not-le-of-lt (subst (λ (n : ℕ). n < 33) (sym (c .before .power-index .ensures ∙ ap powerIndex (part-is nearest))) (part-power (nearest .before .args .t) (start (nearest .before) .number .held) (edges-of (start (nearest .before))) .1)) (c .if1 .taken))
-
--- k can be cast
-casts : tie.Need-float-to-int-scaled
+adds : tie.Need-add-n
 unfolding ofBits
-casts c =
-    let nearest = c .before .before .before .before .before .before .before in
-    subst (λ (k : Float). T (inSigned binary64 63 k)) (sym (nearest .round-ties-even-small .ensures)) (k-castable nearest .defined)
-
-read : (k : Float) (n : Float) → k ≡ n ⊕ plusZero → Castable n → toZ w64 (ofZ w64 (toSigned 63 k)) ≡ toSigned 63 n
-read k n e c = ap (λ (x : Float). toZ w64 (ofZ w64 (toSigned 63 x))) e ∙ c .read
-
-within : tie.Need-scaled-requires
-unfolding ofBits
-within c κs =
-    let nearest = c .before .before .before .before .before .before .before in
-    subst (λ (k : Float). Within 1000 (toZ w64 (ofZ w64 (toSigned 63 k)))) (sym (nearest .round-ties-even-small .ensures)) (k-castable nearest .within)
-
--- the results of the calls up to the test, and to the pattern
-tested-parts : (t p : Float) (i : ℕ) (e : Float) (b : Bool) → p ≡ partOf t → i ≡ powerIndex p → e ≡ entry compoundfExp2T i → b ≡ clearOfSwitches p (p ⊖ e) → b ≡ clearOfSwitches (partOf t) (restOf t)
-unfolding restOf
-tested-parts t p i e b e1 e2 e3 e4 = cc
-
-pattern-of : (t p : Float) (i : ℕ) (e : Float) (w : ℕ) (ik : ℤ) (sw : ℕ) → p ≡ partOf t → i ≡ powerIndex p → e ≡ entry compoundfExp2T i
-    → w ≡ toBits binary64 (pairEntry compoundfExp2U i .hi ⊗ plainExpfPoly (p ⊖ e)) → ik ≡ toSigned 63 (nearestWhole t) → sw ≡ scaled w ik → sw ≡ scaled (plainPattern t) (toSigned 63 (nearestWhole t))
-unfolding restOf plainPattern
-pattern-of t p i e w ik sw e1 e2 e3 e4 e5 e6 = cc
+adds c = record { fits = digits-fit (c .args .t) (start c) }
 
 -- where the tests pass
-module _ (c : tie.After-scaled) where
-  at-start : tie.Start
-  at-start = c .before .before .before .before .before .before .before .before .before
+both : (u v : Bool) → (u && v) ≡ true → T u × (v ≡ true)
+both true v e = (tt, e)
+both false v e = absurd (true≢false (sym e))
 
-  tests-pass : clearOfSwitches (partOf (at-start .args .t)) (restOf (at-start .args .t)) ≡ true
-  unfolding at-start
-  tests-pass =
-      let nearest = c .before .before .before .before .before .before .before .before in
-      sym (tested-parts (nearest .before .args .t) _ _ _ _ (part-is nearest) (c .before .before .before .before .before .before .before .power-index .ensures)
-      (c .before .before .before .before .before .compoundf-exp2-t .ensures) (c .before .before .before .before .clear-of-switches .ensures)) ∙ c .before .before .before .if2 .taken
+module _ (c : tie.After-wrapping-add-u64) where
+  t : Float
+  t = c .before .before .before .before .args .t
 
-  pattern-is : c .scaled .result ≡ scaled (plainPattern (at-start .args .t)) (toSigned 63 (nearestWhole (at-start .args .t)))
-  unfolding at-start ofBits
-  pattern-is =
-      let nearest = c .before .before .before .before .before .before .before .before in
-      pattern-of (nearest .before .args .t) _ _ _ _ _ _ (part-is nearest) (c .before .before .before .before .before .before .before .power-index .ensures)
-      (c .before .before .before .before .before .compoundf-exp2-t .ensures) (c .before .before .plain-power .ensures) (read _ _ (nearest .round-ties-even-small .ensures) (k-castable nearest)) (c .scaled .ensures)
+  tests : (0 < digits32 t % 32) × (clearOfIndex (t ⊖ nearest32nd t) ≡ true)
+  unfolding t ofBits
+  tests =
+      let o = both (ltb 0 (digits32 t % 32)) (c .before .before .before .clear-of-index .result) (c .before .before .if1 .taken) in
+      (ltb→lt 0 (digits32 t % 32) (o .0), sym (c .before .before .before .clear-of-index .ensures) ∙ o .1)
+
+  pattern-is : c .wrapping-add-u64 .result ≡ scaled (plainPattern t) (toSigned 63 (nearestWhole t))
+  unfolding t ofBits
+  pattern-is = c .wrapping-add-u64 .ensures ∙ same-pattern t (start (c .before .before .before .before)) (nonzero (c .before .before .before .before)) (tests .0) (tests .1) _ (c .before .plain-power .ensures)
+
+  clear : clearOfSwitches (partOf t) (restOf t) ≡ true
+  unfolding t
+  clear = clear-of-both t (start (c .before .before .before .before)) (nonzero (c .before .before .before .before)) (tests .0) (tests .1)
 
 in-range : tie.Need-rounded-pattern-requires
-unfolding at-start
-in-range c κs =
-    let t = c .before .before .before .before .before .before .before .before .before .args .t in
-    subst (λ (w : ℕ). (898 * 2 ^ 52 ≤ w) × (w < 1148 * 2 ^ 52)) (sym (pattern-is c)) (plain-range t (start (c .before .before .before .before .before .before .before .before .before)) (tests-pass c))
+unfolding t
+in-range c κs = subst (λ (w : ℕ). (898 * 2 ^ 52 ≤ w) × (w < 1148 * 2 ^ 52)) (sym (pattern-is c)) (plain-range (t c) (start (c .before .before .before .before)) (clear c))
 
-passes-tests : tie.Need-returns-2
-unfolding middleFound at-start
-passes-tests c = c .rounded-pattern .ensures ∙ ap (roundedPattern _) (pattern-is (c .before)) ∙ first _ _ Unsure (tests-pass (c .before))
-
-fails-tests : tie.Need-returns-3
-unfolding middleFound
-fails-tests c =
-    let nearest = c .before .before .before .before .before in
-    second _ _ Unsure (sym (tested-parts (nearest .before .args .t) _ _ _ _ (part-is nearest) (c .before .before .before .before .power-index .ensures) (c .before .before .compoundf-exp2-t .ensures) (c .before .clear-of-switches .ensures)) ∙ c .if2 .left)
+passes-tests : tie.Need-returns
+unfolding middleFound t
+passes-tests c = c .rounded-pattern .ensures ∙ ap (roundedPattern _) (pattern-is (c .before)) ∙ first _ _ Unsure (clear (c .before))
 
 pub middle-found-spec : {M : Type 1} → statement M
 middle-found-spec =
-    tie.close (tie.spec small has-power never (λ c κs. search needs) (λ c κs. search needs) (λ c κs. search needs) casts within in-range passes-tests fails-tests)
+    tie.close (tie.spec number adds (λ c κs. search needs) (λ c κs. search needs) (λ c. search needs) (λ c κs. search needs) in-range passes-tests (λ c κs. search needs) (λ c. search needs))
