@@ -3,12 +3,14 @@
 use mathlib.Core.Path.{_≡_, sym, ap, _∙_}
 use Prim.Native.Nat.{ℕ, _+_, _-_, _*_, _/_, _%_, _^_, _≤_, _<_, min}
 use native.Mathlib.Omega.{arith}
-use lib.Dec.{lit≤, lit<}
+use mathlib.Core.Bool.{not}
+use lib.Dec.{T, lit≤, lit<}
 use lib.IntN.{ℤ, pos, negsuc}
-use lib.Ieee.{binary32, ofBits}
+use lib.Ieee.{binary32, nanBits, ofBits}
 use lib.Ieee.Bits.{ofBits-toBits}
 use Rattle.floats.specs.Operations.{f64}
 use Rattle.floats.specs.Narrowing.{narrowed}
+use Rattle.floats.proofs.Laws.Nan.{number-of-below}
 use Rattle.floats.proofs.Laws.Narrow.{normal-magnitude, narrowed-fits}
 use Rattle.fast_path.specs.Scaling.{scaled, Within}
 use Rattle.fast_path.specs.Fast.{roundingTest}
@@ -107,3 +109,16 @@ accepted b b′ k u v g h w t = record {
     p =
         patterns b b′ (lifted k) (scaled b k) (scaled b′ k) (scaled 0x3d61d00000000000 k) (u .low) (u .high) g h (lifted-low k w) (lifted-high k w)
         (scaled-is b k w (large b u) (u .high)) (scaled-is b′ k w (large b′ v) (v .high)) (scaled-is 0x3d61d00000000000 k w (lit≤ tt) (lit< tt))
+
+-- ---- the f32 pattern that is left of w, rounded to 24 digits, is that of a number
+abbrev pub leftOf : ℕ → ℕ
+leftOf w = (w + 0x10000000) / 0x20000000 - 0x1c0000000
+
+pub left-small : (w : ℕ) → w < 1148 * 2 ^ 52 → leftOf w ≤ 0x7f800000
+left-small w h = omega arith
+
+pub left-number : (w : ℕ) → w < 1148 * 2 ^ 52 → T (not (nanBits binary32 (leftOf w)))
+left-number w h = number-of-below binary32 (leftOf w) (within (leftOf w) (left-small w h))
+  where
+    within : (n : ℕ) → n ≤ 0x7f800000 → n % 2 ^ 31 ≤ 0x7f800000
+    within n h = omega arith

@@ -9,7 +9,7 @@ use lib.Dec.{lit<}
 use lib.IntN.{pos}
 use lib.Ieee.{Float, fin, fits, ofBits, neg, le, lt}
 use Rattle.bounds.proofs.Values.{plus, less, one-side, Number}
-use Rattle.bounds.proofs.Scales.{S, unit, Bound, tested}
+use Rattle.bounds.proofs.Scales.{S, unit, Bound, neg-bound, tested}
 use Rattle.bounds.proofs.Compared.{lt-true, units-of-le}
 use Rattle.filter.specs.Plain.{partEnd, restEnd}
 
@@ -70,20 +70,12 @@ middle-bound n g h = between-bound (124 * 2 ^ 53) low high n g h
     high : Bound S (124 * 2 ^ 53) (fin false 31 (pos 2))
     high = unfold fits in tested (124 * 2 ^ 53) (fin false 31 (pos 2)) tt
 
-pub part-bound : {t : Float} → Number t → le t partEnd ≡ true → le (neg partEnd) t ≡ true → Bound S (2 ^ 52 - 2 ^ 23) t
-part-bound n g h = between-bound (2 ^ 52 - 2 ^ 23) low high n h g
-  where
-    low : Bound S (2 ^ 52 - 2 ^ 23) (neg partEnd)
-    low = unfold ofBits fits neg in tested (2 ^ 52 - 2 ^ 23) (neg partEnd) tt
+-- between -c and c
+end-bound : {t : Float} (K : ℕ) (c : Float) → Bound S K c → Number t → le t c ≡ true → le (neg c) t ≡ true → Bound S K t
+end-bound K c b n g h = between-bound K (neg-bound b) b n h g
 
-    high : Bound S (2 ^ 52 - 2 ^ 23) partEnd
-    high = unfold ofBits fits neg in tested (2 ^ 52 - 2 ^ 23) partEnd tt
+pub part-bound : {t : Float} → Number t → le t partEnd ≡ true → le (neg partEnd) t ≡ true → Bound S (2 ^ 52 - 2 ^ 23) t
+part-bound n g h = end-bound (2 ^ 52 - 2 ^ 23) partEnd (unfold ofBits fits in tested (2 ^ 52 - 2 ^ 23) partEnd tt) n g h
 
 pub rest-bound : {t : Float} → Number t → le t restEnd ≡ true → le (neg restEnd) t ≡ true → Bound S (2 ^ 47 - 2 ^ 23) t
-rest-bound n g h = between-bound (2 ^ 47 - 2 ^ 23) low high n h g
-  where
-    low : Bound S (2 ^ 47 - 2 ^ 23) (neg restEnd)
-    low = unfold ofBits fits neg in tested (2 ^ 47 - 2 ^ 23) (neg restEnd) tt
-
-    high : Bound S (2 ^ 47 - 2 ^ 23) restEnd
-    high = unfold ofBits fits neg in tested (2 ^ 47 - 2 ^ 23) restEnd tt
+rest-bound n g h = end-bound (2 ^ 47 - 2 ^ 23) restEnd (unfold ofBits fits in tested (2 ^ 47 - 2 ^ 23) restEnd tt) n g h

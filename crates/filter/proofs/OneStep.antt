@@ -4,10 +4,10 @@ use mathlib.Core.Path.{_≡_, refl, sym, ap, ap₂, _∙_, subst}
 use mathlib.Core.Logic.{_⊎_, inl, inr}
 use mathlib.Core.Bool.{Bool, true, false, true≢false, cond, _&&_}
 use Prim.Native.Nat.{ℕ, zero, suc, _+_, _-_, _*_, _/_, _%_, _^_, _≤_, _<_, min}
-use native.Mathlib.Nat.{le-trans, le-of-eq, le-antisymm, lt-of-le-of-lt, lt-of-lt-of-le, lt-irrefl, lt-of-mul-lt-mul-right, le-of-mul-le-mul-right, mul-div-cancel, mul-le-mul-right, mul-pos, mul-one, div-add-mod', mod-lt}
+use native.Mathlib.Nat.{le-trans, le-of-eq, le-antisymm, lt-of-le-of-lt, lt-irrefl, lt-of-mul-lt-mul-right, le-of-mul-le-mul-right, mul-div-cancel, mul-le-mul-right, mul-pos, mul-one, mod-lt}
 use native.Mathlib.Omega.{arith}
-use lib.Dec.{T, lit≤, lit<}
-use lib.IntN.{ℤ, pos, negsuc, negℤ}
+use lib.Dec.{lit≤, lit<}
+use lib.IntN.{ℤ, pos, negℤ}
 use lib.Ieee.{Float, nan, inf, fin, binary64, up, down, fits, neg, sub, le, ofBits, toBits, toSigned}
 use lib.Ieee.Bits.{is-true}
 use lib.Ieee.Exact.{HasValue}
@@ -23,7 +23,7 @@ use Rattle.fast_path.specs.Scaling.{scaled}
 use Rattle.fast_path.specs.Fast.{powerIndex}
 use Rattle.fast_path.proofs.Lifted.{lifted, lifted-sum}
 use Rattle.fast_path.proofs.PowerSlot.{exponent-of, power-nearest}
-use Rattle.bounds.proofs.Values.{perOne, perOne-pos, plus, less, mag, mag-of, one-side, Number, neg-plus, neg-less, neg-number, Units}
+use Rattle.bounds.proofs.Values.{perOne, perOne-pos, plus, less, mag, one-side, Number, neg-plus, neg-less, neg-number, Units}
 use Rattle.bounds.proofs.Operation.{units-mag}
 use Rattle.bounds.proofs.Scales.{S, S-pos, one-is, unit, Bound, at, sub-bound}
 use Rattle.bounds.proofs.Distances.{Apart, apart-at, sub-apart}

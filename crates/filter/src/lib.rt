@@ -121,8 +121,8 @@ fn middle_found(t: f64) -> Found
     let i = n % 32;
     if (i > 0) & clear_of_index(rest) {
         let power = plain_power(i, rest);
-        let k = n / 32 % 0x1000 * 0x10_0000_0000_0000;
-        return rounded_pattern(t, std::num::wrapping_add_u64(power, k));
+        let field = n / 32 % 0x1000 * 0x10_0000_0000_0000;
+        return rounded_pattern(t, std::num::wrapping_add_u64(power, field));
     }
     in_two_steps(t)
 }

@@ -1,12 +1,12 @@
 -- `in_two_steps` meets its contract: for t from -124 to 124 the index is inside the table, k can be cast, and the scaled pattern is that of a normal f32's value. Assumes nothing.
 use borrow.Author.Needs.{needs}
-use mathlib.Core.Path.{_≡_, refl, sym, _∙_, ap, subst}
+use mathlib.Core.Path.{_≡_, sym, _∙_, ap, subst}
 use mathlib.Core.Bool.{Bool, true, false}
 use Prim.Native.Nat.{ℕ, _*_, _^_, _≤_, _<_}
 use native.Mathlib.Nat.{not-le-of-lt, lt-of-lt-of-le}
 use lib.Dec.{T, lit<}
-use lib.IntN.{ℤ, pos}
-use lib.Ieee.{Float, fin, binary64, fits, le, toBits, ofBits, toSigned, inSigned}
+use lib.IntN.{ℤ}
+use lib.Ieee.{Float, binary64, toBits, ofBits, toSigned, inSigned}
 use mir.Syntax.{w64}
 use mir.Val.{toZ, ofZ}
 use denote.Floats.{passes}
