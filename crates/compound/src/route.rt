@@ -59,7 +59,7 @@ fn as_written(x: f64, y: f64) -> Answer
     from_logarithm(x, y, l * y)
 }
 
-// Whether 1 + x is 1: |x| is at most 2^-54, for the f32 x of the pattern nx.
+// Whether |x| is at most 2^-54, so that 1 + x is 1, for the f32 x of the pattern nx.
 fn is_absorbed(nx: u32) -> bool
     ensures { λ r. ⌜ r ≡ le (absolute (ofBits binary32 nx)) (fin false 1 (negsuc 53)) ⌝ }
 {

@@ -56,13 +56,16 @@ wide-count = record { number = record { held = tt; plain = tt }; is = refl }
 -- ---- from the 32nds to k. In units of s, t is p - n, k is a - b, and the nearest 32nd is q - m; k is A - B, and there are N 32nds in the sum
 record Beside (s p n a b q m A B N j i : ℕ) : Type 0 where
   positive : 0 < s
+  -- t is less than 1/64 from the nearest 32nd, and hardly more than a half from k
   grid-over : p + m ≤ n + q + (2 ^ 47 - 2 ^ 23 + 300) * s
   grid-under : q + n ≤ m + p + (2 ^ 47 - 2 ^ 23 + 300) * s
   whole-over : p + b ≤ n + a + (2 ^ 52 + 300) * s
   whole-under : a + n ≤ b + p + (2 ^ 52 + 300) * s
+  -- k is whole, and the sum is 3 * 2^46 and the nearest 32nd
   k-plus : a ≡ A * (s * 2 ^ 53)
   k-less : b ≡ B * (s * 2 ^ 53)
   in-grid : q + 3 * 2 ^ 51 * (2 ^ 48 * s) ≡ m + N * (2 ^ 48 * s)
+  -- the digits that j and i are read from
   split : N + 16 ≡ 32 * j + i
   some : 0 < i
   few : i < 32
