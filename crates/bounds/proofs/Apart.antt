@@ -2,7 +2,7 @@
 -- product and sum (`fmla_plain`, `fmla_aside`). The numbers are worked out from those of the terms, so that with literals a whole evaluation is compared by
 -- computing. Assumes nothing.
 use mathlib.Core.Path.{◌≡◌, subst}
-use mathlib.Core.Bool.{Bool, true, ◌&&◌}
+use mathlib.Core.Bool.{Bool, true, ◌&&◌, false}
 use Prim.Native.Nat.{ℕ, ◌+◌, ◌*◌, ◌/◌, ◌^◌, ◌≤◌, ◌<◌}
 use native.Mathlib.Nat.{le_refl, le_trans, le_of_eq, le_of_mul-le-mul_right, mul-le-mul, mul-le-mul_right, add-le-add}
 use native.Mathlib.Omega.{arith}
@@ -151,6 +151,10 @@ product_apart {μ} {ν} {π} {A} {B} {K} {L} {M} {N} {x} {y} {u} {v} t a b p q r
   where
     four : (a b c d : Bool) → T (a && b && c && d) → T a × T b × T c × T d
     four true true true true h = (tt, tt, tt, tt)
+    four false _ c d h = elim h [ ]
+    four true false c d h = elim h [ ]
+    four true true false d h = elim h [ ]
+    four true true true false h = elim h [ ]
 
     in_all : (E k l a b c s : ℕ) → E ≤ a * s → k ≤ b * s → l ≤ c * s → E * 2 ^ 53 + (k + l) ≤ (a * 2 ^ 53 + (b + c)) * s
     in_all E k l a b c s f g h = omega arith
@@ -193,6 +197,17 @@ fmla_aside {K = K} {L = L} {C = C} {M = M} {N = N} {G = G} t a b e p q r u v w g
   where
     seven : (a b c d e f g : Bool) → T (a && b && c && d && e && f && g) → T a × T b × T c × T d × T e × T f × T g
     seven true true true true true true true h = (tt, tt, tt, tt, tt, tt, tt)
+    seven false _ _ _ _ f _ h = elim h [ ]
+    seven true false _ _ _ f _ h = elim h [ ]
+    seven true true false _ _ f _ h = elim h [ ]
+    seven true true true false _ f _ h = elim h [ ]
+    seven true true true true false f _ h = elim h [ ]
+    seven true true true true true false _ h = elim h [ ]
+    seven true true true true true true false h = elim h [ ]
 
     four : (a b c d : Bool) → T a → T b → T c → T d → T (a && b && c && d)
     four true true true true h i j k = tt
+    four false _ _ _ h i j k = elim h [ ]
+    four true false _ _ h i j k = elim i [ ]
+    four true true false _ h i j k = elim j [ ]
+    four true true true false h i j k = elim k [ ]

@@ -350,6 +350,7 @@ le_true {x} {y} p q h = true_of (le x y) (le_of_units x y p q h)
   where
     true_of : (b : Bool) → T b → b ≡ true
     true_of true t = refl
+    true_of false t = elim t [ ]
 
 pub le_false : {x y : Float} → Number x → Number y → plus y + less x < plus x + less y → le x y ≡ false
 le_false {x} {y} p q h = go (le x y) (le_units x y p q)

@@ -3,7 +3,7 @@
 -- literals for K a whole evaluation is bounded by computing. A scale may be relative too, as 2^53 × μ = |z|: a product of a value on the scale of 1 and one on
 -- the scale of z is on the scale of z. Assumes nothing.
 use mathlib.Core.Path.{◌≡◌, refl, sym, ap, ap₂, ◌∙◌, subst}
-use mathlib.Core.Bool.{Bool, true, ◌&&◌}
+use mathlib.Core.Bool.{Bool, true, ◌&&◌, false}
 use Prim.Native.Nat.{ℕ, zero, suc, ◌+◌, ◌-◌, ◌*◌, ◌/◌, ◌^◌, ◌≤◌, ◌<◌}
 use native.Mathlib.Nat.{le_refl, le_trans, le_of_eq, le_of_mul-le-mul_right, mul-le-mul, mul_comm, mul_assoc, mul_right_comm, mul-mul-mul_comm, mul-le-mul_right, mul-le-mul_left, add-le-add, add-mul, div-add-mod', mod-lt, le_of_lt}
 use native.Mathlib.Omega.{arith}
@@ -281,6 +281,12 @@ quick_bounds {μ} {ν} {π} {K} {k} {L} {l} {x} {y} t p q g =
   where
     six : (a b c d e f : Bool) → T (a && b && c && d && e && f) → T a × T b × T c × T d × T e × T f
     six true true true true true true h = (tt, tt, tt, tt, tt, tt)
+    six false b c d e f h = elim h [ ]
+    six true false c d e f h = elim h [ ]
+    six true true false d e f h = elim h [ ]
+    six true true true false e f h = elim h [ ]
+    six true true true true false f h = elim h [ ]
+    six true true true true true false h = elim h [ ]
 
 abbrev pub quick_f64_lo_k : ℕ → ℕ → ℕ → ℕ
 quick_f64_lo_k K k L = sum_k (dekker_k K L) (product_k k L)
@@ -295,6 +301,10 @@ quick_f64_bounds {μ} {ν} {π} {K} {k} {L} {x} {y} t p q g =
   where
     four : (a b c d : Bool) → T (a && b && c && d) → T a × T b × T c × T d
     four true true true true h = (tt, tt, tt, tt)
+    four false b c d h = elim h [ ]
+    four true false c d h = elim h [ ]
+    four true true false d h = elim h [ ]
+    four true true true false h = elim h [ ]
 
 -- ---- `dd_fmla`: on the scale of the product and of c
 -- lo of the full add
@@ -312,6 +322,11 @@ fmla_parts K L C g = five (ok K) (ok L) (ok (product_k K L + C)) (ok (dekker_k K
   where
     five : (a b c d e : Bool) → T (a && b && c && d && e) → T a × T b × T c × T d × T e
     five true true true true true h = (tt, tt, tt, tt, tt)
+    five false b c d e h = elim h [ ]
+    five true false c d e h = elim h [ ]
+    five true true false d e h = elim h [ ]
+    five true true true false e h = elim h [ ]
+    five true true true true false h = elim h [ ]
 
 pub fmla_bound : {μ ν π K L C : ℕ} {x y c : Float} → ProductScale μ ν π → Bound μ K x → Bound ν L y → Bound π C c → T (fmla_ok K L C) → Bound π (fmla_k K L C) (dd_fmla x y c)
 unfolding dd_fmla full_add_f64

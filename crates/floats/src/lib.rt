@@ -2,6 +2,8 @@
 // nearest whole value, the absolute value and a test for whole numbers. Every function but
 // `round_ties_even_small` is total and has no `requires`: each is fixed by its value at every pattern,
 // a NaN's included.
+#![tactic(auto)]
+
 pub mod common;
 pub mod narrowing;
 pub mod patterns;

@@ -1,5 +1,7 @@
 // Input lines: what `id=D x=H y=H` says, or why a line is refused. The format is defined in
 // specs/Format.antt.
+#![tactic(auto)]
+
 mod read;
 
 ghost use Rattle.lines.specs.Format.{Format};

@@ -1,5 +1,7 @@
 // Looking for line feeds: how many there are, and where a line ends. What a complete line is, and what
 // is left after the last line feed, is defined in specs/Complete.antt.
+#![tactic(auto)]
+
 ghost use Rattle.std.specs.Prelude.{◌≡◌, ◌+◌, ◌≤◌, ltb, length, take, drop};
 ghost use Rattle.scan.specs.Complete.{feeds, line_end};
 

@@ -1,5 +1,7 @@
 // The special operands: a translation of `as_compoundf_special` of pxfm 0.1.30 (NOTICE), and the test
 // for them that `f_compoundf` makes.
+#![tactic(auto)]
+
 ghost use Rattle.std.specs.Prelude.{◌≡◌, ◌<◌};
 ghost use Rattle.std.specs.Float.{binary32};
 ghost use Rattle.std.specs.Float.Ieee.{of_bits};

@@ -3,6 +3,8 @@
 // would be built anew on the stack at every call. An index past the table is ruled out by the
 // `requires`, so the last arm is never taken; it is no constant, so that the compiler makes one table
 // of the others and not a jump to each.
+#![tactic(auto)]
+
 ghost use Rattle.std.specs.Prelude.{◌≡◌, ◌<◌, get_or};
 ghost use Rattle.tables.specs.Tables as spec;
 ghost use Rattle.tables.specs.Rules.{Rules};

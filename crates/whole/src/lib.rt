@@ -1,5 +1,7 @@
 // The route `whole`, from `f_compoundf` of pxfm 0.1.30 (NOTICE): y is whole and at most 16 in size,
 // and 1 + x is multiplied out in f64.
+#![tactic(auto)]
+
 ghost use Rattle.std.specs.Prelude.{◌≡◌, ◌%◌, ◌^◌, ◌<◌, ◌≤◌, true, not, T, if◌then◌else◌, from_bits, is_nan, nat_eq, nat_le, to_bits};
 ghost use Rattle.std.specs.Float.{binary32, binary64};
 ghost use Rattle.floats.specs.Narrowing.{narrowed};

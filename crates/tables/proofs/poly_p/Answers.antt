@@ -1,0 +1,16 @@
+-- `poly_p` meets its contract: no entry is a NaN's pattern, and the f64 is that of the entry. Assumes nothing.
+use borrow.Author.Rules.{rules}
+use mathlib.Core.Path.{ap}
+use lib.Ieee.{nan_bits}
+use Rattle.floats.specs.Operations.{f64}
+use Rattle.tables.specs.Tables.{entry, log2p1_poly_p}
+use Rattle.tables.proofs.Entries.{number_entry}
+use Rattle.tables.proofs.poly_p.Goals as goal
+
+pub float_from_bits-result : goal.float_from_bits-result
+unfolding nan_bits log2p1_poly_p entry
+float_from_bits-result c = number_entry log2p1_poly_p 8 tt _ _ c.requires c.poly_p_bits.ensures
+
+pub returns : goal.returns
+unfolding nan_bits log2p1_poly_p entry
+returns c = ap f64 c.poly_p_bits.ensures

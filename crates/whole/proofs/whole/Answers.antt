@@ -1,0 +1,146 @@
+-- `whole` meets its contract, operation by operation. Assumes nothing.
+use Rattle.std.proofs.Common.{◌≡◌, ℕ, ◌-◌, ◌*◌, ◌/◌, ◌%◌, ◌^◌, ◌<◌, ◌≤◌, Bool, true, false, cond, not, ◌&&◌, T, leb, pos, ap, ◌∙◌, ap₂, arith, rules}
+use lib.Ieee.{Float, binary32, binary64, lt, to_unsigned, in_unsigned, fits, is_nan, to_bits, of_bits}
+use lib.Ieee.Casts.{to_unsigned-lt}
+use lib.Ieee.Bits.{to_bits-lt}
+use lib.Ieee.Fits.{and_i, add-fits, fits_widens}
+use denote.Floats.{passes}
+use mir.Val.{bool_byte}
+use Rattle.floats.specs.Operations.{◌⊕◌, ◌⊘◌}
+use Rattle.floats.specs.Narrowing.{narrowed}
+use Rattle.floats.specs.OnBits.{absolute}
+use Rattle.floats.proofs.Laws.Magnitude.{absolute_of_bits, magnitude_number}
+use Rattle.floats.proofs.Laws.Sums.{add_number}
+use Rattle.special.specs.Special as Special
+use Rattle.whole.specs.Whole as spec
+use Rattle.whole.specs.Whole.{power}
+use Rattle.whole.proofs.Exponent.{number_x, number_y, castable_exponent, tiny_of_pattern}
+use Rattle.whole.proofs.Quotient.{power_fits, power_number, sign_of_pattern, quotient, quotient_number}
+use Rattle.whole.proofs.Squaring.{factor}
+use Rattle.whole.proofs.Tiny.{exponent, power_way}
+use Rattle.whole.proofs.whole.Goals as goal
+use Rattle.whole.proofs.whole.Goals.{After-squarings-acc, Start}
+
+-- a test counts as 0 or 1, and with it the exponent stays a u32
+one_at_most : (b : Bool) → bool_byte b ≤ 1
+one_at_most true = omega arith
+one_at_most false = omega arith
+
+no_more : (n : ℕ) (b : Bool) → n < 2 ^ 32 → n * (1 - bool_byte b) < 2 ^ 32
+no_more n true h = omega arith
+no_more n false h = omega (arith, h)
+
+one_bit : (n : ℕ) → n < 2 ^ 32 → n / 2 ^ 31 ≤ 1
+one_bit n h = omega (arith, h)
+
+module _ (c : Start) where
+  abbrev x : Float
+  x = c.args.x
+
+  abbrev y : Float
+  y = c.args.y
+
+  x_fits : T (fits binary32 x)
+  x_fits = passes _ c.well_formed.0.1
+
+  y_fits : T (fits binary32 y)
+  y_fits = passes _ c.well_formed.1.0.1
+
+  size : of_bits binary32 (to_bits binary32 y % 2 ^ 31) ≡ absolute y
+  size = absolute_of_bits binary32 y y_fits
+
+  castable : T (in_unsigned binary32 32 (of_bits binary32 (to_bits binary32 y % 2 ^ 31)))
+  castable = rw size (castable_exponent x y c.requires)
+
+  widens : T (fits binary64 x && not (is_nan x))
+  widens = and_i (fits binary64 x) (not (is_nan x)) (fits_widens _ x_fits) (number_x x y c.requires)
+
+  -- 1 + x is a number
+  sum_number : T (not (is_nan (x ⊕ Special.one)))
+  sum_number = add_number binary64 x false 1 (pos 0) (number_x x y c.requires)
+
+  -- the exponent, as the code has it
+  counted : to_unsigned 32 (of_bits binary32 (to_bits binary32 y % 2 ^ 31)) * (1 - bool_byte (leb (to_bits binary32 x % 2 ^ 31) 0x3100_0000)) ≡ exponent x y
+  counted = ap₂ (λ (a : Float) (b : Bool). to_unsigned 32 a * (1 - bool_byte b)) size (tiny_of_pattern x x_fits)
+
+-- what was multiplied out, and what is narrowed
+module _ (c : After-squarings-acc) where
+  abbrev start : Start
+  start = c.before.before.before
+
+  abbrev acc : Float
+  acc = c.squarings-acc.result
+
+  abbrev below : ℕ
+  below = to_bits binary32 (y start) / 2 ^ 31
+
+  power_is : acc ≡ power (x start ⊕ Special.one) (exponent (x start) (y start))
+  unfolding of_bits
+  power_is = c.squarings-acc.ensures ∙ ap (power (x start ⊕ Special.one)) (counted start)
+
+  acc_fits : T (fits binary64 acc)
+  acc_fits = rw power_is (power_fits (exponent (x start) (y start)) (x start ⊕ Special.one) (add-fits binary64 (x start) Special.one))
+
+  acc_number : T (not (is_nan acc))
+  acc_number = rw power_is (power_number (exponent (x start) (y start)) (x start ⊕ Special.one) (sum_number start))
+
+  quotient_is : factor (1 - below) acc ⊘ factor below acc ≡ cond (lt (y start) Special.zero) (Special.one ⊘ acc) acc
+  quotient_is = quotient acc (lt (y start) Special.zero) below acc_fits (sign_of_pattern (x start) (y start) (y_fits start) start.pre)
+
+  narrowable : (p q : Float) → p ≡ factor (1 - below) acc → q ≡ factor below acc → T (not (is_nan (p ⊘ q)))
+  narrowable p q d e = rw (ap₂ ◌⊘◌ d e ∙ quotient_is) (quotient_number acc (lt (y start) Special.zero) acc_number)
+
+  answer : (p q : Float) → p ≡ factor (1 - below) acc → q ≡ factor below acc → narrowed (p ⊘ q) ≡ spec.whole (x start) (y start)
+  answer p q d e = ap narrowed (ap₂ ◌⊘◌ d e ∙ quotient_is) ∙ power_way (x start) (y start) acc start.pre power_is
+
+pub float_to_bits-tiny : goal.float_to_bits-tiny
+unfolding of_bits
+float_to_bits-tiny c = number_x (x (goal.at.float_to_bits-tiny c).Start) (y (goal.at.float_to_bits-tiny c).Start) c.requires
+
+pub float_to_bits-ny : goal.float_to_bits-ny
+unfolding of_bits
+float_to_bits-ny c = number_y (x (goal.at.float_to_bits-ny c).Start) (y (goal.at.float_to_bits-ny c).Start) c.requires
+
+pub float_from_bits-n : goal.float_from_bits-n
+unfolding of_bits
+float_from_bits-n c = magnitude_number binary32 (y (goal.at.float_from_bits-n c).Start) (y_fits (goal.at.float_from_bits-n c).Start) (number_y (x (goal.at.float_from_bits-n c).Start) (y (goal.at.float_from_bits-n c).Start) c.requires)
+
+pub float_to_int-n : goal.float_to_int-n
+unfolding of_bits
+float_to_int-n c = castable (goal.at.float_to_int-n c).Start
+
+pub float_to_float-x : goal.float_to_float-x
+unfolding of_bits
+float_to_float-x c = widens (goal.at.float_to_float-x c).Start
+
+pub overflow_sub-tiny : goal.overflow_sub-tiny
+unfolding of_bits
+overflow_sub-tiny c = one_at_most (leb (to_bits binary32 (x (goal.at.overflow_sub-tiny c).Start) % 2 ^ 31) 0x3100_0000)
+
+pub overflow_mul-n : goal.overflow_mul-n
+unfolding of_bits
+overflow_mul-n c = record { fits = no_more _ (leb (to_bits binary32 (x (goal.at.overflow_mul-n c).Start) % 2 ^ 31) 0x3100_0000) (to_unsigned-lt 32 _) }
+
+pub squarings-acc-requires : goal.squarings-acc-requires
+unfolding of_bits
+squarings-acc-requires c = sum_number (goal.at.squarings-acc-requires c).Start
+
+pub overflow_sub-below : goal.overflow_sub-below
+unfolding of_bits
+overflow_sub-below c = one_bit _ (to_bits-lt binary32 (y (start (goal.at.overflow_sub-below c).After-squarings-acc)) (y_fits (start (goal.at.overflow_sub-below c).After-squarings-acc)))
+
+pub factor-requires : goal.factor-requires
+unfolding of_bits
+factor-requires c = acc_number (goal.at.factor-requires c).After-squarings-acc
+
+pub factor-requires-2 : goal.factor-requires-2
+unfolding of_bits
+factor-requires-2 c = acc_number (goal.at.factor-requires-2 c).After-squarings-acc
+
+pub narrow_branchless-requires : goal.narrow_branchless-requires
+unfolding of_bits
+narrow_branchless-requires c = narrowable (goal.at.narrow_branchless-requires c).After-squarings-acc _ _ c.factor.ensures c.factor-2.ensures
+
+pub returns : goal.returns
+unfolding of_bits
+returns c = c.narrow_branchless.ensures ∙ answer (goal.at.returns c).After-squarings-acc _ _ c.factor.ensures c.factor-2.ensures
