@@ -6,8 +6,7 @@ use mir.ValLaws.{to_z-of_z}
 use Rattle.fast_path.specs.Scaling.{biased, exponent_of}
 use Rattle.floats.proofs.Laws.Tests.{swapped}
 use Rattle.fast_path.proofs.Field.{biased_below}
-use Rattle.fast_path.proofs.scaling.exponent.Statement.{statement}
-use Rattle.fast_path.proofs.scaling.exponent.Tie as tie
+use Rattle.fast_path.proofs.scaling.exponent.Goals as goal
 
 small : (n : ℕ) → n ≤ 2048 → n < 2 ^ 63
 small n h = lt_of_le_of_lt h (lit< tt)
@@ -46,27 +45,21 @@ difference_held n h = held (leb 1023 n) (n - 1023) (1023 - suc n) (omega (arith,
 read_back : (n : ℕ) → n ≤ 2048 → to_z w64 (of_z w64 (to_z w64 n -ℤ pos 1023)) ≡ minus n 1023
 read_back n h = ap (λ (z : ℤ). to_z w64 (of_z w64 z)) (from_field n h) ∙ to_z-of_z w64 (minus n 1023) (difference_fits n h)
 
-cast : tie.Need-overflow-cast-result
-cast c = field_fits _ (bounded _ _ c.before.requires c.biased.ensures)
+pub overflow_cast-result : goal.overflow_cast-result
+overflow_cast-result c = field_fits _ (bounded _ _ c.requires c.biased.ensures)
 
-subtract : tie.Need-overflow-sub-result
-subtract c =
-    let n = c.biased.result in
-    let h = bounded _ n c.before.requires c.biased.ensures in
+pub overflow_sub-result : goal.overflow_sub-result
+overflow_sub-result c =
+    let n = c.biased.result in let h = bounded _ n c.requires c.biased.ensures in
     subst (SFits w64) (sym (from_field n h)) (difference_fits n h)
 
-convert : tie.Need-int-to-float-result
-convert c =
-    let n = c.before.biased.result in
-    let h = bounded _ n c.before.before.requires c.before.biased.ensures in
+pub int_to_float-result : goal.int_to_float-result
+int_to_float-result c =
+    let n = c.biased.result in let h = bounded _ n c.requires c.biased.ensures in
     subst (λ (z : ℤ). T (in_float binary64 z)) (sym (read_back n h)) (difference_held n h)
 
-returns : tie.Need-returns
+pub returns : goal.returns
 unfolding exponent_of
 returns c =
-    let n = c.before.biased.result in
-    let h = bounded _ n c.before.before.requires c.before.biased.ensures in
-    ap (λ (z : ℤ). of_int binary64 z) (read_back n h) ∙ ap (λ (x : ℕ). of_int binary64 (minus x 1023)) c.before.biased.ensures
-
-pub exponent_spec : {M : Type 1} → statement M
-exponent_spec = tie.close (tie.spec (λ c κs. search rules) cast subtract convert returns)
+    let n = c.biased.result in let h = bounded _ n c.requires c.biased.ensures in
+    ap (λ (z : ℤ). of_int binary64 z) (read_back n h) ∙ ap (λ (x : ℕ). of_int binary64 (minus x 1023)) c.biased.ensures

@@ -9,8 +9,7 @@ use Rattle.special.specs.Special.{one, minus_one}
 use Rattle.fast_path.specs.Fast.{inverse_index, HasInverse}
 use Rattle.fast_path.proofs.InverseRange.{inverse_range}
 use Rattle.fast_path.proofs.MinusOne.{minus_one_same}
-use Rattle.fast_path.proofs.times_minus_one.Statement.{statement}
-use Rattle.fast_path.proofs.times_minus_one.Tie as tie
+use Rattle.fast_path.proofs.times_minus_one.Goals as goal
 
 -- r is the entry
 for_entry : (r t : Float) → T (fits binary64 t) → HasInverse t → r ≡ entry log2p1_compoundf_inv (inverse_index t)
@@ -20,9 +19,6 @@ for_entry r t f h e =
     let hi = t ⊕ fin false 1 (pos 26) ⊖ fin false 1 (pos 26) in
     subst (λ (r : Float). r ⊗ (t ⊖ hi) ⊕ (r ⊗ hi ⊖ one) ≡ dd_fmla r t minus_one) (sym e) (minus_one_same t (inverse_range t f h) h)
 
-returns : tie.Need-returns
+pub returns : goal.returns
 unfolding of_bits
-returns c = for_entry _ _ (passes _ c.well-formed.1.0.1) c.requires.0 c.requires.1
-
-pub times_minus_one_spec : {M : Type 1} → statement M
-times_minus_one_spec = tie.close (tie.spec returns)
+returns c = for_entry _ _ (passes _ c.well_formed.1.0.1) c.requires.has_inverse c.requires.r_is_inverse

@@ -9,35 +9,34 @@ use Rattle.fast_path.specs.declared.Exp2.{Exp2}
 use Rattle.fast_path.specs.Scaling.{scaled}
 use Rattle.fast_path.specs.Fast.{HasPower, exp2_reduced, rounding_test, exp2_fast}
 use Rattle.fast_path.proofs.Index.{Castable, whole_k, distance_index}
-use Rattle.fast_path.proofs.exp2_fast.Statement.{statement}
-use Rattle.fast_path.proofs.exp2_fast.Tie as tie
+use Rattle.fast_path.proofs.exp2_fast.Goals as goal
+use Rattle.fast_path.proofs.exp2_fast.Goals.{After-round_ties_even-k}
 
-in_range : tie.Need-exp2-reduced-requires
-in_range c κs =
-    let t = c.before.args.t in
-    subst (λ (k : Float). HasPower (t ⊖ k)) (sym c.round_ties_even.ensures)
-    (distance_index t (passes _ c.before.well-formed.0.1) c.before.requires.0 c.before.requires.1)
+pub exp2_reduced-v-requires : goal.exp2_reduced-v-requires
+exp2_reduced-v-requires c =
+    let t = c.args.t in subst (λ (k : Float). HasPower (t ⊖ k)) (sym c.round_ties_even-k.ensures)
+    (distance_index t (passes _ c.well_formed.0.1) c.requires.t_above c.requires.t_below)
 
 -- k is the nearest whole value to t
 castable : (t k : Float) → T (fits binary64 t) → T (lt (fin true 75 (pos 1)) t) → T (lt t (fin false 1 (pos 7))) → k ≡ nearest_whole t → Castable k
 castable t k f above below e = subst Castable (sym e) (whole_k t f above below)
 
 -- so it can be cast
-module _ (c : tie.After-round-ties-even) where
-  k_castable : Castable c.round_ties_even.result
-  k_castable = castable c.before.args.t _ (passes _ c.before.well-formed.0.1) c.before.requires.0 c.before.requires.1 c.round_ties_even.ensures
+module _ (c : After-round_ties_even-k) where
+  k_castable : Castable c.round_ties_even-k.result
+  k_castable = castable c.args.t _ (passes _ c.well_formed.0.1) c.requires.t_above c.requires.t_below c.round_ties_even-k.ensures
 
-float-to-int-ik : tie.Need-float-to-int-ik
+pub float_to_int-ik : goal.float_to_int-ik
 unfolding of_bits
-float-to-int-ik c = (k_castable c.before.before).defined
+float_to_int-ik c = (k_castable (goal.at.float_to_int-ik c).After-round_ties_even-k).defined
 
-within : tie.Need-scaled-requires
+pub scaled-requires : goal.scaled-requires
 unfolding of_bits
-within c κs = (k_castable c.before.before).within
+scaled-requires c = (k_castable (goal.at.scaled-requires c).After-round_ties_even-k).within
 
-within-2 : tie.Need-scaled-requires-2
+pub scaled-requires-2 : goal.scaled-requires-2
 unfolding of_bits
-within-2 c κs = (k_castable c.before.before.before).within
+scaled-requires-2 c = (k_castable (goal.at.scaled-requires-2 c).After-round_ties_even-k).within
 
 -- the results of the calls together are the definition
 together : (t k : Float) (v : ℕ) (ik : ℤ) (sv se : ℕ) (r : Exp2) → k ≡ nearest_whole t → v ≡ exp2_reduced (t ⊖ k) → ik ≡ to_signed 63 k → sv ≡ scaled v ik
@@ -45,12 +44,8 @@ together : (t k : Float) (v : ℕ) (ik : ℤ) (sv se : ℕ) (r : Exp2) → k ≡
 unfolding exp2_fast
 together t k v ik sv se r e1 e2 e3 e4 e5 e6 = cc
 
-returns : tie.Need-returns
+pub returns : goal.returns
 unfolding of_bits
 returns c =
-    let nearest = c.before.before.before.before.before in
-    together nearest.before.args.t _ _ _ _ _ _ nearest.round_ties_even.ensures c.before.before.before.before.exp2-reduced.ensures (k_castable nearest).read
-    c.before.before.scaled.ensures c.before.scaled2.ensures c.pattern-test.ensures
-
-pub exp2_fast_spec : {M : Type 1} → statement M
-exp2_fast_spec = tie.close (tie.spec (λ c κs. search rules) in_range float-to-int-ik within within-2 (λ c κs. search rules) returns)
+    together c.args.t _ _ _ _ _ _ c.round_ties_even-k.ensures c.exp2_reduced-v.ensures (k_castable (goal.at.returns c).After-round_ties_even-k).read
+    c.scaled.ensures c.scaled-2.ensures c.pattern_test.ensures
