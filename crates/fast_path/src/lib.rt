@@ -25,7 +25,7 @@ use tables::{
 pub mod scaling;
 
 // What `exp2_fast` finds: a number near 2^t where the rounding test passes, or that it fails.
-#[derive(Drop)]
+#[derive(Clone, Copy)]
 pub enum Exp2 {
     Rounded(f64),
     Failed,

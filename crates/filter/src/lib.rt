@@ -5,6 +5,8 @@
 // clear of the edges it settles the route. Elsewhere nothing is found, and the fast path runs as
 // written. How far the two can be from each other is a theorem (proofs/Logarithm.antt,
 // proofs/Power.antt, proofs/Near.antt).
+#![tactic(auto)]
+
 ghost use Rattle.std.specs.Prelude.{◌≡◌, ◌*◌, ◌^◌, ◌<◌, ◌≤◌, true, false, T, pos};
 ghost use Rattle.std.specs.Float.{binary32, fin};
 ghost use Rattle.std.specs.Float.Ieee.{fits, le, lt};
@@ -26,7 +28,7 @@ pub mod plain;
 // What is found of a pair: the fast answer; that the fast path fails its tests, so that the answer is
 // the slow one; that t is at the lower edge, at the upper edge, or so small that the answer is 1; or
 // nothing.
-#[derive(Drop)]
+#[derive(Clone, Copy)]
 pub enum Found {
     Fast(f32),
     Slow,

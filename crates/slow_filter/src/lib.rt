@@ -22,7 +22,7 @@ use slow_path::compoundf_accurate;
 use tables::{compoundf_exp2_t, poly_q2};
 
 // What is found of a value: the f32 that the slow path rounds it to, or nothing.
-#[derive(Drop)]
+#[derive(Clone, Copy)]
 pub enum SlowFound {
     Rounded(f32),
     Unsure,

@@ -1,5 +1,7 @@
 // The slow part of the table path, in double-doubles. A translation of `compoundf.rs` of pxfm 0.1.30
 // (NOTICE); names and the order of the operations are the source's.
+#![tactic(auto)]
+
 ghost use Rattle.std.specs.Prelude.{◌≡◌, ◌<◌, T};
 ghost use Rattle.std.specs.Float.{binary32};
 ghost use Rattle.std.specs.Float.Ieee.{fits, lt};
