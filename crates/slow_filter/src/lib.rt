@@ -1,6 +1,8 @@
 // The filter in front of the slow path: where the answer is below the normal f32s or next to 1, and the
 // plain value is further from every midpoint of two f32s, and from every switch of k and of the index,
 // than it can be from the slow path's own, it is the answer. Elsewhere the slow path runs as written.
+#![tactic(auto)]
+
 ghost use Rattle.std.specs.Prelude.{◌≡◌, ◌*◌, ◌^◌, ◌≤◌, ◌<◌, T};
 ghost use Rattle.std.specs.Float.{binary32};
 ghost use Rattle.std.specs.Float.Ieee.{fits, le, lt};

@@ -8,8 +8,7 @@ use Rattle.floats.specs.OnBits.{absolute}
 use Rattle.floats.proofs.Laws.Tests.{first, second}
 use Rattle.filter.specs.Plain.{plain_factor, plain_log2p1}
 use Rattle.slow_filter.specs.Plain.{plain_log}
-use Rattle.slow_filter.proofs.plain_log.Statement.{statement}
-use Rattle.slow_filter.proofs.plain_log.Tie as tie
+use Rattle.slow_filter.proofs.plain_log.Goals as goal
 
 -- where the test's outcome is known, l being the least that 1 + x keeps
 kept : (l x a r : Float) → a ≡ absolute x → le l a ≡ true → r ≡ plain_log2p1 x → r ≡ cond (le l (absolute x)) (plain_log2p1 x) (x ⊗ plain_factor x)
@@ -18,10 +17,14 @@ kept l x a r e f g = g ∙ first _ _ _ (sym (ap (le l) e) ∙ f)
 lost : (l x a r : Float) → a ≡ absolute x → le l a ≡ false → r ≡ plain_factor x → x ⊗ r ≡ cond (le l (absolute x)) (plain_log2p1 x) (x ⊗ plain_factor x)
 lost l x a r e f g = ap (λ (k : Float). x ⊗ k) g ∙ second _ _ _ (sym (ap (le l) e) ∙ f)
 
-pub plain_log_spec : {M : Type 1} → statement M
+pub float_from_bits-t-3 : goal.float_from_bits-t-3
 unfolding plain_log of_bits nan_bits
-plain_log_spec =
-    tie.close (tie.spec (λ c κs. search rules) (λ c. tt) (λ c κs. search rules)
-    (λ c. kept _ _ _ _ c.before.before.abs.ensures c.before.if1.true c.plain-log2p1.ensures)
-    (λ c κs. search rules)
-    (λ c. lost _ _ _ _ c.before.before.abs.ensures c.before.if1.false c.plain-factor.ensures))
+float_from_bits-t-3 c = tt
+
+pub returns-then-abs : goal.returns-then-abs
+unfolding plain_log of_bits nan_bits
+returns-then-abs c = kept _ _ _ _ c.abs.ensures c.if-abs.true c.plain_log2p1.ensures
+
+pub returns : goal.returns
+unfolding plain_log of_bits nan_bits
+returns c = lost _ _ _ _ c.abs.ensures c.if-abs.false c.plain_factor.ensures

@@ -8,27 +8,22 @@ use Rattle.floats.proofs.Laws.Tests.{first, second}
 use Rattle.filter.proofs.Accepted.{left_small, left_number}
 use Rattle.slow_filter.specs.declared.SlowFound.TheVariants.{Unsure}
 use Rattle.slow_filter.specs.NearOne.{rounded_near_one}
-use Rattle.slow_filter.proofs.rounded_near_one.Statement.{statement}
-use Rattle.slow_filter.proofs.rounded_near_one.Tie as tie
+use Rattle.slow_filter.proofs.rounded_near_one.Goals as goal
 
 -- 2 is below what an f32 holds
 below : (w : ℕ) → w < 1024 * 2 ^ 52 → w < 1148 * 2 ^ 52
 below w h = lt_of_lt_of_le h (lit≤ tt)
 
-casts : tie.Need-overflow-cast-t8
-casts c = record { fits = lt_of_le_of_lt (left_small c.before.args.w (below _ c.before.requires.1)) (lit< tt) }
+pub overflow_cast-result : goal.overflow_cast-result
+overflow_cast-result c = record { fits = lt_of_le_of_lt (left_small c.args.w (below _ c.requires.w_below)) (lit< tt) }
 
-number : tie.Need-float-from-bits-t9
-number c = left_number c.before.args.w (below _ c.before.requires.1)
+pub float_from_bits-result : goal.float_from_bits-result
+float_from_bits-result c = left_number c.args.w (below _ c.requires.w_below)
 
-passes : tie.Need-returns
+pub returns-then-w-gt16 : goal.returns-then-w-gt16
 unfolding rounded_near_one
-passes c = first _ _ Unsure (lt-ltb _ _ c.if1.true)
+returns-then-w-gt16 c = first _ _ Unsure (lt-ltb _ _ c.if-w-gt16.true)
 
-fails : tie.Need-returns-2
+pub returns : goal.returns
 unfolding rounded_near_one
-fails c = second _ _ Unsure (le-ltb _ _ c.if1.false)
-
-pub rounded_near_one_spec : {M : Type 1} → statement M
-rounded_near_one_spec =
-    tie.close (tie.spec (λ c. search rules) (λ c. search rules) (λ c. search rules) casts number passes fails)
+returns c = second _ _ Unsure (le-ltb _ _ c.if-w-gt16.false)

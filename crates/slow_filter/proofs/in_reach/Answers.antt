@@ -2,9 +2,8 @@
 use mathlib.Core.Path.{refl}
 use lib.Ieee.{of_bits, neg}
 use Rattle.slow_filter.specs.Plain.{in_reach}
-use Rattle.slow_filter.proofs.in_reach.Statement.{statement}
-use Rattle.slow_filter.proofs.in_reach.Tie as tie
+use Rattle.slow_filter.proofs.in_reach.Goals as goal
 
-pub in_reach_spec : {M : Type 1} → statement M
+pub returns : goal.returns
 unfolding in_reach of_bits neg
-in_reach_spec = tie.close (tie.spec (λ c. refl))
+returns c = refl

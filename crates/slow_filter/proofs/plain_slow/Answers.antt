@@ -10,8 +10,7 @@ use Rattle.slow_filter.specs.declared.SlowFound.TheVariants.{Unsure}
 use Rattle.slow_filter.specs.NearOne.{near_one_found}
 use Rattle.slow_filter.specs.Plain.{plain_log, in_reach, next_to_one, subnormal_power, plain_slow}
 use Rattle.slow_filter.proofs.Reach.{reached, next_reached}
-use Rattle.slow_filter.proofs.plain_slow.Statement.{statement}
-use Rattle.slow_filter.proofs.plain_slow.Tie as tie
+use Rattle.slow_filter.proofs.plain_slow.Goals as goal
 
 -- where the tests' outcomes are known
 module _ (x y l : Float) (e : l ≡ plain_log x) where
@@ -28,11 +27,20 @@ module _ (x y l : Float) (e : l ≡ plain_log x) where
   unfolding plain_slow
   unsure b c f g i j = second _ _ Unsure (sym (i ∙ ap (λ (k : Float). next_to_one y (k ⊗ y)) e) ∙ j) ∙ second _ _ _ (sym (f ∙ ap (λ (k : Float). in_reach y (k ⊗ y)) e) ∙ g)
 
-pub plain_slow_spec : {M : Type 1} → statement M
-plain_slow_spec =
-    tie.close (tie.spec (λ c κs. search rules) (λ c κs. search rules) (λ c κs. reached _ _ (sym c.before.in_reach.ensures ∙ c.if1.true))
-    (λ c. below_normal _ _ _ c.before.before.before.plain-log.ensures _ _ c.before.before.in_reach.ensures c.before.if1.true c.subnormal-power.ensures)
-    (λ c κs. search rules)
-    (λ c κs. next_reached _ _ (sym c.before.next-to-one.ensures ∙ c.if2.true))
-    (λ c. next_to_one_lem _ _ _ c.before.before.before.before.before.plain-log.ensures _ _ _ c.before.before.before.before.in_reach.ensures c.before.before.before.if1.false c.before.before.next-to-one.ensures c.before.if2.true c.near-one-found.ensures)
-    (λ c. unsure _ _ _ c.before.before.before.before.plain-log.ensures _ _ c.before.before.before.in_reach.ensures c.before.before.if1.false c.before.next-to-one.ensures c.if2.false))
+pub subnormal_power-requires-clause-t_most : goal.subnormal_power-requires-clause-t_most
+subnormal_power-requires-clause-t_most c = (reached _ _ (sym c.in_reach.ensures ∙ c.if-in_reach.true)).0
+
+pub subnormal_power-requires-clause-t_least : goal.subnormal_power-requires-clause-t_least
+subnormal_power-requires-clause-t_least c = (reached _ _ (sym c.in_reach.ensures ∙ c.if-in_reach.true)).1
+
+pub returns-then-in_reach : goal.returns-then-in_reach
+returns-then-in_reach c = below_normal _ _ _ c.plain_log.ensures _ _ c.in_reach.ensures c.if-in_reach.true c.subnormal_power.ensures
+
+pub near_one_found-requires : goal.near_one_found-requires
+near_one_found-requires c = next_reached _ _ (sym c.next_to_one.ensures ∙ c.if-next_to_one.true)
+
+pub returns-then-next_to_one : goal.returns-then-next_to_one
+returns-then-next_to_one c = next_to_one_lem _ _ _ c.plain_log.ensures _ _ _ c.in_reach.ensures c.if-in_reach.false c.next_to_one.ensures c.if-next_to_one.true c.near_one_found.ensures
+
+pub returns : goal.returns
+returns c = unsure _ _ _ c.plain_log.ensures _ _ c.in_reach.ensures c.if-in_reach.false c.next_to_one.ensures c.if-next_to_one.false

@@ -20,43 +20,44 @@ use Rattle.fast_path.proofs.Lifted.{within_read, within_cast}
 use Rattle.slow_filter.specs.declared.SlowFound.TheVariants.{Unsure}
 use Rattle.slow_filter.specs.Subnormal.{BelowNormal, subnormal_sum, rounded_subnormal, subnormal_found}
 use Rattle.slow_filter.proofs.Subnormal.{Below, scaled_below}
-use Rattle.slow_filter.proofs.rounded_subnormal.Statement.{statement}
-use Rattle.slow_filter.proofs.rounded_subnormal.Tie as tie
+use Rattle.slow_filter.proofs.rounded_subnormal.Goals as goal
+use Rattle.slow_filter.proofs.rounded_subnormal.Goals.{After-scaled-m}
 
 -- ---- the scaled pattern
 within : (k : ℤ) → BelowNormal k → Within 1000 k
 within (pos n) h = absurd h
 within (negsuc n) h = omega (arith, h.1)
 
-scales : tie.Need-scaled-requires
-scales c κs = within_cast c.args.k (within c.args.k c.requires.1.1)
+pub scaled-m-requires : goal.scaled-m-requires
+scaled-m-requires c = within_cast c.args.k (within c.args.k c.requires.below_normal)
 
-module _ (c : tie.After-scaled) where
-  scaled_is : c.scaled.result ≡ scaled c.before.args.w c.before.args.k
-  scaled_is = c.scaled.ensures ∙ ap (scaled c.before.args.w) (within_read c.before.args.k (within c.before.args.k c.before.requires.1.1))
+module _ (c : After-scaled-m) where
+  scaled_is : c.scaled-m.result ≡ scaled c.args.w c.args.k
+  scaled_is = c.scaled-m.ensures ∙ ap (scaled c.args.w) (within_read c.args.k (within c.args.k c.requires.below_normal))
 
-  range : Below c.scaled.result
-  range = subst Below (sym scaled_is) (scaled_below c.before.args.w c.before.args.k (record { low = c.before.requires.0; high = c.before.requires.1.0 }) c.before.requires.1.1)
+  range : Below c.scaled-m.result
+  range = subst Below (sym scaled_is) (scaled_below c.args.w c.args.k (record { low = c.requires.w_least; high = c.requires.w_below }) c.requires.below_normal)
 
   -- 2^25 less, and 2^25 more
-  less : c.scaled.result - 33554432 < 897 * 2 ^ 52
-  less = go c.scaled.result range.most
+  less : c.scaled-m.result - 33554432 < 897 * 2 ^ 52
+  less = go c.scaled-m.result range.most
     where
       go : (w : ℕ) → w < 897 * 2 ^ 52 → w - 33554432 < 897 * 2 ^ 52
       go w h = omega arith
 
-  more : c.scaled.result + 33554432 < 898 * 2 ^ 52
-  more = go c.scaled.result range.most
+  more : c.scaled-m.result + 33554432 < 898 * 2 ^ 52
+  more = go c.scaled-m.result range.most
     where
       go : (w : ℕ) → w < 897 * 2 ^ 52 → w + 33554432 < 898 * 2 ^ 52
       go w h = omega arith
 
-offset : tie.Need-float-from-bits-offset
+pub float_from_bits-offset : goal.float_from_bits-offset
 unfolding nan_bits
-offset c = tt
+float_from_bits-offset c = tt
 
-enough : tie.Need-overflow-sub-low
-enough c = go c.scaled.result (range c).least
+pub overflow_sub-low : goal.overflow_sub-low
+overflow_sub-low c =
+    go c.scaled-m.result (range (goal.at.overflow_sub-low c).After-scaled-m).least
   where
     go : (w : ℕ) → 872 * 2 ^ 52 ≤ w → 2 ^ 25 ≤ w
     go w h = omega arith
@@ -71,14 +72,14 @@ number w h = number_of_below binary64 w (go w h)
 low_number : (w : ℕ) → w < 897 * 2 ^ 52 → T (not (nan_bits binary64 w))
 low_number w h = number w (omega (arith, h))
 
-high_fits : tie.Need-overflow-add-high
-high_fits c = record { fits = lt_of_lt_of_le (more c) (lit≤ tt) }
+pub overflow_add-high : goal.overflow_add-high
+overflow_add-high c = record { fits = lt_of_lt_of_le (more (goal.at.overflow_add-high c).After-scaled-m) (lit≤ tt) }
 
-low_sum : tie.Need-float-to-bits-low
-low_sum c = low_sum_number _ (low_finite _ (less c))
+pub float_to_bits-low : goal.float_to_bits-low
+float_to_bits-low c = low_sum_number _ (low_finite _ (less (goal.at.float_to_bits-low c).After-scaled-m))
 
-high_sum : tie.Need-float-to-bits-high
-high_sum c = low_sum_number _ (below_infinity binary64 _ (lt_of_lt_of_le (more c) (lit≤ tt)))
+pub float_to_bits-high : goal.float_to_bits-high
+float_to_bits-high c = low_sum_number _ (below_infinity binary64 _ (lt_of_lt_of_le (more (goal.at.float_to_bits-high c).After-scaled-m) (lit≤ tt)))
 
 -- ---- the f32's pattern: that of the narrowed value of w
 module _ (w : ℕ) (h : w < 897 * 2 ^ 52) where
@@ -97,18 +98,25 @@ module _ (w : ℕ) (h : w < 897 * 2 ^ 52) where
   result_number : T (not (nan_bits binary32 (to_bits binary64 (f64 w ⊕ f64 0x39e0000000000000) - 0x39e0000000000000)))
   result_number = subst (λ (n : ℕ). T (not (nan_bits binary32 n))) pattern_is (pattern_number (f64 w) (of_bits-fits binary64 w) is_number)
 
-casts : tie.Need-overflow-cast-t12
-casts c = record { fits = result_small _ (less c.before) }
+pub overflow_cast-result : goal.overflow_cast-result
+overflow_cast-result c = record { fits = result_small _ (less (goal.at.overflow_cast-result c).After-scaled-m) }
 
-same : tie.Need-returns
+pub returns-then-low-high : goal.returns-then-low-high
 unfolding subnormal_found rounded_subnormal subnormal_sum
-same c = first _ _ Unsure (eq-eqb _ _ c.if1.true) ∙ ap rounded_subnormal (scaled_is c.before)
+returns-then-low-high c = first _ _ Unsure (eq-eqb _ _ c.if-low-high.true) ∙ ap rounded_subnormal (scaled_is (goal.at.returns-then-low-high c).After-scaled-m)
 
-differ : tie.Need-returns-2
+pub returns : goal.returns
 unfolding subnormal_found rounded_subnormal subnormal_sum
-differ c = second _ _ Unsure (ne_eqb _ _ c.if1.false) ∙ ap rounded_subnormal (scaled_is c.before)
+returns c = second _ _ Unsure (ne_eqb _ _ c.if-low-high.false) ∙ ap rounded_subnormal (scaled_is (goal.at.returns c).After-scaled-m)
 
-pub rounded_subnormal_spec : {M : Type 1} → statement M
-rounded_subnormal_spec =
-    tie.close
-    (tie.spec scales offset enough (λ c. low_number _ (less c)) low_sum high_fits (λ c. number _ (more c)) high_sum (λ c. over_offset _ (less c.before)) casts (λ c. result_number _ (less c.before)) same differ)
+pub float_from_bits-low : goal.float_from_bits-low
+float_from_bits-low c = low_number _ (less (goal.at.float_from_bits-low c).After-scaled-m)
+
+pub float_from_bits-high : goal.float_from_bits-high
+float_from_bits-high c = number _ (more (goal.at.float_from_bits-high c).After-scaled-m)
+
+pub overflow_sub-result : goal.overflow_sub-result
+overflow_sub-result c = over_offset _ (less (goal.at.overflow_sub-result c).After-scaled-m)
+
+pub float_from_bits-result : goal.float_from_bits-result
+float_from_bits-result c = result_number _ (less (goal.at.float_from_bits-result c).After-scaled-m)
