@@ -98,6 +98,7 @@ module _ (c : After-plain_power) where
       c.compoundf_exp2_t.ensures c.plain_power.ensures
 
   k_is : to_z w64 (of_z w64 (to_signed 63 c.round_ties_even_small-k.result)) ≡ to_signed 63 (nearest_whole c.args.t)
+  unfolding nearest
   k_is = read _ _ c.round_ties_even_small-k.ensures (k_castable nearest)
 
 pub rounded_subnormal-requires : goal.rounded_subnormal-requires
