@@ -2,6 +2,8 @@
 // themselves, a slice as a pointer and a length, a lent array as a pointer to its first byte, and the
 // reader's state by value, as a C struct. Each is the function of the same name in `batch`, with its
 // answer as numbers where that is an enum. None has a `requires`.
+#![tactic(auto)]
+
 ghost use Rattle.std.specs.Prelude.{◌≡◌, ◌++◌, length};
 ghost use Rattle.text.specs.Bytes.{put};
 ghost use Rattle.state.specs.Holding.{fresh};

@@ -1,5 +1,4 @@
 -- `fade_feed` meets its contract: what `feed` did, with its answer as a number and a length. Assumes nothing.
-use borrow.Author.Rules.{rules}
 use mathlib.Core.Path.{◌≡◌, ◌∙◌, ap}
 use Prim.Native.Nat.{ℕ}
 use mathlib.Core.List.{List}
@@ -10,8 +9,7 @@ use Rattle.batch.specs.Feed.{Did, fed, verdict, out_after, number}
 use Rattle.batch.specs.Series.{said}
 use Rattle.batch_exports.specs.declared.Handed.{Handed}
 use Rattle.batch_exports.specs.Handed.{handed}
-use Rattle.batch_exports.proofs.fade_feed.Statement.{statement}
-use Rattle.batch_exports.proofs.fade_feed.Tie as tie
+use Rattle.batch_exports.proofs.fade_feed.Goals as goal
 
 abbrev parts : State → ℕ → ℕ → Handed
 parts s n w = record { state = s; number = n; wrote = w }
@@ -27,8 +25,5 @@ leaves : (s : State) (p out : List ℕ) (r : Fed) (out' : List ℕ) → Did s p 
 unfolding fed
 leaves s p out r out' did = did.output ∙ ap (λ (f : Fed). out_after f.verdict s p out) did.result
 
-returns : tie.Need-returns
-returns c = (hands _ _ _ _ _ _ _ c.before.before.before.before.before.feed.ensures c.before.feed-number.ensures c.length-said.ensures, leaves _ _ _ _ _ c.before.before.before.before.before.feed.ensures)
-
-pub fade_feed_spec : {M : Type 1} → statement M
-fade_feed_spec = tie.close (tie.spec (λ c κs. search rules) (λ c κs. search rules) (λ c κs. search rules) (λ c. search rules) returns)
+pub returns : goal.returns
+returns c = record { value = hands _ _ _ _ _ _ _ c.feed-fed.ensures c.feed_number.ensures c.length_said.ensures; out_after = leaves _ _ _ _ _ c.feed-fed.ensures }
