@@ -1,6 +1,5 @@
-// Carrying on the line that the tail holds. The prover covers no function over a struct that holds a
-// reference, so these are few and thin: each makes the piece or takes it apart. Others call
-// `carry_on`, whose parameters are plain.
+// Carrying on the line that the tail holds. `carry` takes a piece together with its position. Others
+// call `carry_on`, whose parameters are plain.
 ghost use Rattle.std.specs.Prelude.{◌≡◌, ◌≤◌, length};
 ghost use Rattle.state.specs.Holding.{Sound};
 ghost use Rattle.state.specs.Carry.{carry_on};

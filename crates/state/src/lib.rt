@@ -1,6 +1,8 @@
 // The reader's state, carried from one piece of input to the next: the unfinished line, the lines so
 // far and the tallies. Here are the state before the first piece, the test of cause 5, and how a piece
 // carries on the line that the tail holds. What a state holds is defined in specs/Holding.antt.
+#![tactic(auto)]
+
 mod broken;
 mod carry;
 mod held;

@@ -1,8 +1,7 @@
 -- `carry_from` meets its contract. Assumes nothing.
-use borrow.Author.Rules.{rules}
 use Prim.Native.Nat.{ℕ, ◌+◌, ◌-◌, ◌≤◌}
 use native.Mathlib.Omega.{arith}
-use mathlib.Core.Path.{◌≡◌, ap, ◌∙◌}
+use mathlib.Core.Path.{◌≡◌}
 use mathlib.Core.List.{List, ◌++◌}
 use lib.ListN.{length, take, drop, length-drop}
 use Rattle.state.specs.declared.Tail.{Tail}
@@ -11,8 +10,7 @@ use Rattle.scan.specs.Complete.{line_end}
 use Rattle.state.specs.Holding.{hold, carried}
 use Rattle.state.specs.Carry.{carry_on}
 use Rattle.scan.proofs.Cutting.{line_end_within}
-use Rattle.state.proofs.carry.carry_from.Statement.{statement}
-use Rattle.state.proofs.carry.carry_from.Tie as tie
+use Rattle.state.proofs.carry.carry_from.Goals as goal
 
 module _ (p : List ℕ) (at end : ℕ) (h : at ≤ length p) (e : end ≡ at + line_end (drop at p)) where
   within : end ≤ length p
@@ -23,14 +21,11 @@ module _ (p : List ℕ) (at end : ℕ) (h : at ≤ length p) (e : end ≡ at + l
   unfolding carry_on
   carried_on t line f = let b : end - at ≡ line_end (drop at p) = omega arith in let g : line ≡ hold (carried t ++ take (line_end (drop at p)) (drop at p)) = rw b at f in cc
 
-sub-extended : tie.Need-overflow-sub-extended
-sub-extended c = omega (arith, c.line-end.ensures)
+pub slice_bounds-extended-count : goal.slice_bounds-extended-count
+slice_bounds-extended-count c = omega (arith, c.line_end-end.ensures)
 
-part-extended-end : tie.Need-slice-bounds-extended-end
-part-extended-end c = within _ _ _ c.before.before.requires.0 c.line-end.ensures
+pub slice_bounds-extended-end : goal.slice_bounds-extended-end
+slice_bounds-extended-end c = within _ _ _ c.requires.0 c.line_end-end.ensures
 
-returns : tie.Need-returns
-returns c = carried_on _ _ _ c.before.before.before.before.requires.0 c.before.before.line-end.ensures _ _ c.extended.ensures
-
-pub carry_from_spec : {M : Type 1} → statement M
-carry_from_spec = tie.close (tie.spec (λ c κs. search rules) sub-extended (λ c. search rules) part-extended-end (λ c κs. search rules) returns)
+pub returns : goal.returns
+returns c = carried_on _ _ _ c.requires.0 c.line_end-end.ensures _ _ c.extended-line.ensures
