@@ -1,5 +1,4 @@
 -- `put_end` meets its contract: nothing for 0, else the line, its feed after the rest. Assumes nothing.
-use borrow.Author.Rules.{rules}
 use borrow.Author.Tests.{eq-eqb, ne_eqb}
 use Prim.Native.Nat.{ℕ, ◌+◌, ◌≤◌}
 use native.Mathlib.Nat.{add-zero}
@@ -10,8 +9,8 @@ use Rattle.text.specs.Bytes.{put}
 use Rattle.text.proofs.Put.{put_nothing}
 use Rattle.text.proofs.Wrote.{Wrote, first_part, room, then}
 use Rattle.totals.specs.Totals.{counted, end_line}
-use Rattle.totals.proofs.put_end.Statement.{statement}
-use Rattle.totals.proofs.put_end.Tie as tie
+use Rattle.totals.proofs.put_end.Goals as goal
+use Rattle.totals.proofs.put_end.Goals.{After-put_number-feed}
 
 -- the parts of the line
 abbrev first : ℕ → List ℕ
@@ -42,38 +41,29 @@ module _ (at m n : ℕ) (e : n ≡ 0 → ⊥) (h : at + length (end_line n) ≤ 
   first_fits : at + length (first n) ≤ m
   first_fits = first_part at m (first n) feed line_fits
 
--- what is known at the start
-abbrev start : tie.After-put-number → tie.Start
-start c = c.before.before.before.before.before
+pub returns-then-end-eq0 : goal.returns-then-end-eq0
+returns-then-end-eq0 c = let w = nothing c.args.end c.args.at c.args.out.now c.if-end-eq0.true in record { value = w.0; out_after = w.1 }
 
-returns : tie.Need-returns
-returns c = nothing _ _ _ c.if1.true
-
-put-number-requires : tie.Need-put-number-requires
-put-number-requires c κs = first_fits _ _ _ c.before.before.if1.false c.before.before.before.before.requires
+pub put_number-feed-requires : goal.put_number-feed-requires
+put_number-feed-requires c = first_fits _ _ _ c.if-end-eq0.false c.requires
 
 -- what is written after the number
-after_first : (c : tie.After-put-number) → Wrote (start c).args.out.now (start c).args.at (first (start c).args.end) c.put-number.new.1.1.0 c.put-number.result
-after_first c = record { place = c.put-number.ensures.0; bytes = c.put-number.ensures.1 }
+after_first : (c : After-put_number-feed) → Wrote c.args.out.now c.args.at (first c.args.end) c.put_number-feed.new.out c.put_number-feed.result
+after_first c = record { place = c.put_number-feed.ensures.value; bytes = c.put_number-feed.ensures.out_after }
 
 -- room for the line, after its number
-fits_after : (c : tie.After-put-number) → (start c).args.at + length (first (start c).args.end ++ feed) ≤ length (start c).args.out.now
-fits_after c = line_fits _ _ _ c.before.before.before.if1.false (start c).requires
+fits_after : (c : After-put_number-feed) → c.args.at + length (first c.args.end ++ feed) ≤ length c.args.out.now
+fits_after c = line_fits _ _ _ c.if-end-eq0.false c.requires
 
-put-bytes-requires : tie.Need-put-bytes-requires
-put-bytes-requires c κs =
-    let d = c.before.before.before.before in
-    room (after_first d) feed (fits_after d)
+pub put_bytes-requires : goal.put_bytes-requires
+put_bytes-requires c = room (after_first (goal.at.put_bytes-requires c).After-put_number-feed) feed (fits_after (goal.at.put_bytes-requires c).After-put_number-feed)
 
 -- the line is written
 ended : (n at : ℕ) (out after : List ℕ) (end : ℕ) → (n ≡ 0 → ⊥) → Wrote out at (first n ++ feed) after end → (end ≡ at + length (end_line n)) × (after ≡ put out at (end_line n))
 ended n at out after end e w = rw (line_is n e) (w.place, w.bytes)
 
-returns-2 : tie.Need-returns-2
-returns-2 c =
-    let b = c.before.before in
-    let d = b.before.before.before.before.before in
-    ended _ _ _ _ _ d.before.before.before.if1.false (then (after_first d) feed (fits_after d) (record { place = b.put-bytes.ensures.0; bytes = b.put-bytes.ensures.1 }))
-
-pub put_end_spec : {M : Type 1} → statement M
-put_end_spec = tie.close (tie.spec returns (λ c. search rules) put-number-requires (λ c. search rules) put-bytes-requires (λ c. search rules) returns-2)
+pub returns : goal.returns
+returns c =
+    let d = (goal.at.returns c).After-put_number-feed in
+    let w = ended _ _ _ _ _ c.if-end-eq0.false (then (after_first d) feed (fits_after d) (record { place = c.put_bytes.ensures.value; bytes = c.put_bytes.ensures.out_after })) in
+    record { value = w.0; out_after = w.1 }
