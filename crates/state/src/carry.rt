@@ -9,7 +9,7 @@ use crate::{Carried, Tail};
 use scan::line_end;
 
 // A piece, and the position up to which it has been read.
-#[derive(Drop)]
+#[derive(Clone, Copy)]
 struct Piece<'a> {
     bytes: &'a [u8],
     at: usize,
