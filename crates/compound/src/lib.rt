@@ -15,7 +15,7 @@ use whole::{is_whole, whole};
 mod route;
 
 // The answer: one of five routes, each carrying its f32.
-#[derive(Drop)]
+#[derive(Clone, Copy)]
 pub enum Answer {
     Rule(f32),
     Whole(f32),
