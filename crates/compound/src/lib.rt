@@ -1,6 +1,8 @@
 // The compound function (1 + x)^y in f32, with the route that its answer took. A translation of
 // `f_compoundf` in `compoundf.rs` of pxfm 0.1.30 (NOTICE). For every pair of patterns the answer is
 // the definition's, in specs/Route.antt, route and value.
+#![tactic(auto)]
+
 ghost use Rattle.std.specs.Prelude.{◌≡◌};
 ghost use Rattle.std.specs.Float.{binary32};
 ghost use Rattle.std.specs.Float.Ieee.{of_bits};

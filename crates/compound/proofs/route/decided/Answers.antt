@@ -10,8 +10,7 @@ use Rattle.compound.specs.Answer.{outcome}
 use Rattle.fast_path.specs.Fast.{exp2_fast}
 use Rattle.slow_path.specs.Slow.{compoundf_accurate}
 use Rattle.compound.specs.Route.{decided}
-use Rattle.compound.proofs.route.decided.Statement.{statement}
-use Rattle.compound.proofs.route.decided.Tie as tie
+use Rattle.compound.proofs.route.decided.Goals as goal
 
 fast : (x y t v r : Float) (res : Exp2) → res ≡ exp2_fast t → res ≡ Rounded v → r ≡ narrowed v → outcome (Fast r) ≡ decided x y (exp2_fast t)
 unfolding outcome decided
@@ -21,8 +20,8 @@ slow : (x y t r : Float) (res : Exp2) → res ≡ exp2_fast t → res ≡ Failed
 unfolding outcome decided
 slow x y t r res e h n = ap (λ (u : Float). outcome (Slow u)) n ∙ ap (decided x y) (sym h ∙ e)
 
-pub decided_spec : {M : Type 1} → statement M
-decided_spec =
-    tie.close (tie.spec (λ c κs. search rules) (λ c. search rules) (λ c κs. search rules) (λ c. search rules) (λ c κs. search rules)
-    (λ c. fast _ _ _ _ _ _ c.before.before.before.before.exp2-fast.ensures c.before.before.res.given.1 c.narrow.ensures)
-    (λ c. slow _ _ _ _ _ c.before.before.before.exp2-fast.ensures c.before.enum_told.given.1 c.compoundf-accurate.ensures))
+pub returns-in-Rounded : goal.returns-in-Rounded
+returns-in-Rounded c = fast _ _ _ _ _ _ c.exp2_fast-res.ensures c.in-Rounded.is c.narrow.ensures
+
+pub returns-in-Failed : goal.returns-in-Failed
+returns-in-Failed c = slow _ _ _ _ _ c.exp2_fast-res.ensures c.in-Failed.is c.compoundf_accurate.ensures

@@ -13,8 +13,7 @@ use Rattle.special.specs.Special.{is_rule, special}
 use Rattle.whole.specs.Whole as Whole
 use Rattle.compound.specs.Route.{Tabled, table_path, compound}
 use Rattle.special.proofs.Rule.{OffRule, off_rule, finite_number}
-use Rattle.compound.proofs.f_compoundf.Statement.{statement}
-use Rattle.compound.proofs.f_compoundf.Tie as tie
+use Rattle.compound.proofs.f_compoundf.Goals as goal
 
 -- the definition's choice by its two tests
 abbrev chosen : Float → Float → Bool → Bool → Outcome
@@ -48,14 +47,23 @@ tabled : (m n : ℕ) → OffRule (of_bits binary32 m) (of_bits binary32 n) → T
 tabled m n o =
     record { x_fits = of_bits-fits binary32 m; x_finite = o.x_finite; x_above = o.x_above; y_fits = of_bits-fits binary32 n; y_finite = o.y_finite }
 
-pub f_compoundf_spec : {M : Type 1} → statement M
-f_compoundf_spec =
-    tie.close (tie.spec (λ c κs. search rules) (λ c κs. search rules)
-    (λ c. by_rule _ _ _ _ c.before.before.is-rule.ensures c.before.if1.true c.as-compoundf-special.ensures)
-    (λ c κs. search rules)
-    (λ c. number _ (off _ _ _ c.before.before.before.is-rule.ensures c.before.before.if1.false).x_finite)
-    (λ c. number _ (off _ _ _ c.before.before.before.is-rule.ensures c.before.before.if1.false).y_finite)
-    (λ c κs. sym c.before.is_whole.ensures ∙ c.if2.true)
-    (λ c. by_whole _ _ _ _ _ c.before.before.before.before.is-rule.ensures c.before.before.is_whole.ensures c.before.before.before.if1.false c.before.if2.true c.whole.ensures)
-    (λ c κs. tabled _ _ (off _ _ _ c.before.before.before.is-rule.ensures c.before.before.if1.false))
-    (λ c. by_table _ _ _ _ _ c.before.before.before.before.is-rule.ensures c.before.before.is_whole.ensures c.before.before.before.if1.false c.before.if2.false c.table-path.ensures))
+pub returns-then-is_rule : goal.returns-then-is_rule
+returns-then-is_rule c = by_rule _ _ _ _ c.is_rule.ensures c.if-is_rule.true c.as_compoundf_special.ensures
+
+pub float_from_bits-nx : goal.float_from_bits-nx
+float_from_bits-nx c = number _ (off _ _ _ c.is_rule.ensures c.if-is_rule.false).x_finite
+
+pub float_from_bits-ny : goal.float_from_bits-ny
+float_from_bits-ny c = number _ (off _ _ _ c.is_rule.ensures c.if-is_rule.false).y_finite
+
+pub whole-requires : goal.whole-requires
+whole-requires c = sym c.is_whole.ensures ∙ c.if-is_whole.true
+
+pub returns-then-is_whole : goal.returns-then-is_whole
+returns-then-is_whole c = by_whole _ _ _ _ _ c.is_rule.ensures c.is_whole.ensures c.if-is_rule.false c.if-is_whole.true c.whole.ensures
+
+pub table_path-requires : goal.table_path-requires
+table_path-requires c = tabled _ _ (off _ _ _ c.is_rule.ensures c.if-is_rule.false)
+
+pub returns : goal.returns
+returns c = by_table _ _ _ _ _ c.is_rule.ensures c.is_whole.ensures c.if-is_rule.false c.if-is_whole.false c.table_path.ensures

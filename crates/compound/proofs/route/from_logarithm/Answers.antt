@@ -14,8 +14,7 @@ use Rattle.floats.proofs.Laws.Compare.{Order, less, same, more, order, or_true}
 use Rattle.compound.specs.Answer.{outcome}
 use Rattle.special.specs.Special as Special
 use Rattle.compound.proofs.Chosen.{known}
-use Rattle.compound.proofs.route.from_logarithm.Statement.{statement}
-use Rattle.compound.proofs.route.from_logarithm.Tie as tie
+use Rattle.compound.proofs.route.from_logarithm.Goals as goal
 
 -- a size that is neither above D nor D is below it
 smaller : (M D : ℕ) → (ltb D M || (eqb M D && true)) ≡ false → M < D
@@ -42,9 +41,9 @@ above (fin true m k) e h = lt→ltb (m * up k * 1) (150 * down k) (smaller (m * 
 shifted : (n : ℕ) → n % 9223372036854775808 * 2 ≡ n * 2 % 18446744073709551616
 shifted n = omega arith
 
-returns : tie.Need-returns
+pub returns-then-t : goal.returns-then-t
 unfolding of_bits neg outcome
-returns c = known _ _ _ true _ _ c.if1.true refl refl
+returns-then-t c = known _ _ _ true _ _ c.if-t.true refl refl
 
 -- a t below 128 is no NaN
 number : (t : Float) → lt t (fin false 1 (pos 7)) ≡ true → T (not (is_nan t))
@@ -53,35 +52,34 @@ number nan h = absurd (true≢false (sym h))
 number (inf s) h = tt
 number (fin s m k) h = tt
 
-is_number : tie.Need-float-to-bits-if3
+pub float_to_bits-t : goal.float_to_bits-t
 unfolding of_bits
-is_number c = number _ c.if2.true
+float_to_bits-t c = number _ c.if-t-2.true
 
-returns-2 : tie.Need-returns-2
+pub returns-then-t-le4496586149445861140 : goal.returns-then-t-le4496586149445861140
 unfolding of_bits neg outcome
-returns-2 c = known _ _ _ false true true c.before.before.if1.false c.before.if2.true (at_most _ c.if3.true)
+returns-then-t-le4496586149445861140 c =
+    known _ _ _ false true true c.if-t.false c.if-t-2.true (at_most _ c.if-t-le4496586149445861140.true)
   where
     at_most : (n : ℕ) → n % 9223372036854775808 * 2 ≤ 0x3e6715476ba97f14 → leb (n * 2 % 2 ^ 64) 0x3e6715476ba97f14 ≡ true
     at_most n h = le-leb _ _ (subst (λ (u : ℕ). u ≤ 0x3e6715476ba97f14) (shifted n) h)
 
-requires : tie.Need-decided-requires
+pub decided-requires : goal.decided-requires
 unfolding of_bits neg
-requires c κs =
-    let start = c.before.before.before in
-    (start.requires, (above _ c.before.before.if1.false c.before.if2.true, passes _ c.before.if2.true))
+decided-requires c = record { tabled = c.requires; t_above = above _ c.if-t.false c.if-t-2.true; t_below = passes _ c.if-t-2.true }
 
-returns-3 : tie.Need-returns-3
+pub returns-then-t-2 : goal.returns-then-t-2
 unfolding of_bits neg
-returns-3 c =
-    c.decided.ensures ∙ known _ _ _ false true false c.before.before.before.if1.false c.before.before.if2.true (over _ c.before.if3.false)
+returns-then-t-2 c =
+    c.decided.ensures ∙ known _ _ _ false true false c.if-t.false c.if-t-2.true (over _ c.if-t-le4496586149445861140.false)
   where
     over : (n : ℕ) → 0x3e6715476ba97f14 < n % 9223372036854775808 * 2 → leb (n * 2 % 2 ^ 64) 0x3e6715476ba97f14 ≡ false
     over n h = lt-leb _ _ (subst (λ (u : ℕ). 0x3e6715476ba97f14 < u) (shifted n) h)
 
-returns-4 : tie.Need-returns-4
+pub returns : goal.returns
 unfolding of_bits neg outcome
-returns-4 c = known _ _ _ false false _ c.before.if1.false c.if2.false refl
+returns c = known _ _ _ false false _ c.if-t.false c.if-t-2.false refl
 
-pub from_logarithm_spec : {M : Type 1} → statement M
+pub float_from_bits-result : goal.float_from_bits-result
 unfolding nan_bits
-from_logarithm_spec = tie.close (tie.spec returns is_number (λ c. search rules) returns-2 requires returns-3 (λ c. tt) returns-4)
+float_from_bits-result c = tt
