@@ -12,9 +12,7 @@ use Rattle.replies.specs.declared.Reply.{Reply}
 use Rattle.replies.specs.declared.Reply.TheVariants.{Answered, Bad}
 use Rattle.text.proofs.Numerals.{places_most}
 use Rattle.replies.proofs.Lengths.{word_most, length_answered, length_bad}
-use borrow.Author.Rules.{rules}
-use Rattle.replies.proofs.write.reply_length.Statement.{statement}
-use Rattle.replies.proofs.write.reply_length.Tie as tie
+use Rattle.replies.proofs.write.reply_length.Goals as goal
 
 -- the sums fit
 small : (k p n : ℕ) → k ≤ 20 → p ≡ places 9 n → k + p < 2 ^ 64
@@ -36,47 +34,17 @@ of_bad : (reply : Reply) (n p : ℕ) → reply ≡ Bad n → p ≡ places 9 n �
 unfolding told
 of_bad reply n p h e = ap (λ (m : ℕ). 5 + m) e ∙ sym (length_bad n) ∙ sym (ap (λ (r : Reply). length (written (told r))) h)
 
-enum-known-reply : tie.Need-enum-known-reply
-enum-known-reply c = search rules
+pub overflow_add-result : goal.overflow_add-result
+overflow_add-result c = record { fits = small 20 _ _ (lit≤ tt) c.places.ensures }
 
-places-requires : tie.Need-places-requires
-places-requires c κs = search rules
+pub overflow_add-result-in-Answered : goal.overflow_add-result-in-Answered
+overflow_add-result-in-Answered c = record { fits = small_2 _ _ _ _ c.places.ensures c.word_length.ensures }
 
-add-result : tie.Need-overflow-add-result
-add-result c = record { fits = small 20 _ _ (lit≤ tt) c.places.ensures }
+pub overflow_add-result-in-Bad : goal.overflow_add-result-in-Bad
+overflow_add-result-in-Bad c = record { fits = small 5 _ _ (lit≤ tt) c.places-in-Bad.ensures }
 
-word-length-requires : tie.Need-word-length-requires
-word-length-requires c κs = search rules
+pub returns-in-Answered : goal.returns-in-Answered
+returns-in-Answered c = of_answered _ _ _ _ _ c.in-Answered.is c.places.ensures c.word_length.ensures
 
-add-result-2 : tie.Need-overflow-add-result-2
-add-result-2 c = record { fits = small_2 _ _ _ _ c.before.places.ensures c.word-length.ensures }
-
-enum-known-reply-2 : tie.Need-enum-known-reply-2
-enum-known-reply-2 c = search rules
-
-places-requires-2 : tie.Need-places-requires-2
-places-requires-2 c κs = search rules
-
-add-result-3 : tie.Need-overflow-add-result-3
-add-result-3 c = record { fits = small 5 _ _ (lit≤ tt) c.places2.ensures }
-
-returns : tie.Need-returns
-returns c = of_answered _ _ _ _ _ c.before.before.before.reply.given.1 c.before.places.ensures c.word-length.ensures
-
-returns-2 : tie.Need-returns-2
-returns-2 c = of_bad _ _ _ c.before.before.reply2.given.1 c.places2.ensures
-
-pub reply_length_spec : {M : Type 1} → statement M
-reply_length_spec =
-    tie.close
-    (tie.spec
-    enum-known-reply
-    places-requires
-    add-result
-    word-length-requires
-    add-result-2
-    enum-known-reply-2
-    places-requires-2
-    add-result-3
-    returns
-    returns-2)
+pub returns-in-Bad : goal.returns-in-Bad
+returns-in-Bad c = of_bad _ _ _ c.in-Bad.is c.places-in-Bad.ensures
