@@ -1,5 +1,4 @@
 -- `answer_lines` meets its contract: what is written, and what the lines to come add to it, is all. Assumes nothing.
-use borrow.Author.Rules.{rules}
 use Prim.Native.Nat.{ℕ, ◌+◌, ◌-◌, ◌≤◌, ◌<◌}
 use native.Mathlib.Nat.{add-zero}
 use native.Mathlib.Omega.{arith}
@@ -16,24 +15,15 @@ use Rattle.state.specs.Tally.{plus, total}
 use Rattle.piece.specs.Piece.{replies, joined, answer_lines, most_lines}
 use Rattle.scan.proofs.Cutting.{FirstLine, NoLine, line_here, none_here}
 use Rattle.piece.proofs.Replied.{first_answer, first_count, plus_assoc, plus_none, lines_total}
-use Rattle.piece.proofs.answer.answer_lines.Statement.{statement}
-use Rattle.piece.proofs.answer.answer_lines.Tie as tie
+use Rattle.piece.proofs.answer.answer_lines.Goals as goal
+use Rattle.piece.proofs.answer.answer_lines.Goals.{Start}
+use Rattle.piece.proofs.answer.answer_lines.Invariants.{Done}
 
 -- what is asked of the caller
 record Given (p : List ℕ) (from : ℕ) (t₀ : Tallies) (out₀ : List ℕ) (at : ℕ) : Type 0 where
   pub from_within : from ≤ length p
   pub countable : total t₀ + feeds (drop from p) ≤ most_lines
   pub room : at + length (answer_lines (lines (drop from p))) ≤ length out₀
-
--- at place i, whose line ends at `end`, `text` has been written
-record Done (p : List ℕ) (from : ℕ) (t₀ : Tallies) (out₀ : List ℕ) (at : ℕ) (text out : List ℕ) (i place : ℕ) (t : Tallies) (end : ℕ) : Type 0 where
-  pub i_within : i ≤ length p
-  pub at_end : end ≡ i + line_end (drop i p)
-  pub out_is : out ≡ put out₀ at text
-  pub place_is : place ≡ at + length text
-  pub answers : text ++ answer_lines (lines (drop i p)) ≡ answer_lines (lines (drop from p))
-  pub tallies : plus t (counts (replies (lines (drop i p)))) ≡ plus t₀ (counts (replies (lines (drop from p))))
-  pub left : rest (drop i p) ≡ rest (drop from p)
 
 module _ (p : List ℕ) (from : ℕ) (t₀ : Tallies) (out₀ : List ℕ) (at : ℕ) (given : Given p from t₀ out₀ at) where
   module _ (text out : List ℕ) (i place : ℕ) (t : Tallies) (end : ℕ) (d : Done p from t₀ out₀ at text out i place t end) where
@@ -122,26 +112,19 @@ module _ (p : List ℕ) (from : ℕ) (t₀ : Tallies) (out₀ : List ℕ) (at : 
       unfolding rest
       left_all = sym over.all_rest ∙ d.left
 
-abbrev invariant-loop : tie.invariant-loop
-invariant-loop piece from out₀ at i₀ place₀ t₀ end₀ out i place t end = (text : List ℕ) × Done piece from t₀ out₀ at text out i place t end
+-- the caller's three facts
+asked : (c : Start) → Given c.args.piece.now c.args.from c.args.tallies c.args.out.now c.args.at
+asked c = record { from_within = c.requires.from_in_bounds; countable = c.requires.countable; room = c.requires.room }
 
-abbrev decreases-loop : tie.decreases-loop
-decreases-loop piece from out₀ at i₀ place₀ t₀ end₀ out i place t end = length piece - i
+pub line_end-end-requires : goal.line_end-end-requires
+line_end-end-requires c = c.requires.from_in_bounds
 
--- the caller's three facts, by name
-asked : {p : List ℕ} {from : ℕ} {t₀ : Tallies} {out₀ : List ℕ} {at : ℕ}
-    → (from ≤ length p) × ((total t₀ + feeds (drop from p) ≤ most_lines) × (at + length (answer_lines (lines (drop from p))) ≤ length out₀)) → Given p from t₀ out₀ at
-asked h = record { from_within = h.0; countable = h.1.0; room = h.1.1 }
-
-line-end-requires : tie.Need-line-end-requires invariant-loop decreases-loop
-line-end-requires c κs = c.before.before.requires.0
-
-loop-holds : tie.Need-loop-init invariant-loop decreases-loop
-loop-holds c = (
+pub loop-end-init : goal.loop-end-init
+loop-end-init c = (
   [],
   record {
-    i_within = c.before.before.before.requires.0;
-    at_end = c.line-end.ensures;
+    i_within = c.requires.from_in_bounds;
+    at_end = c.line_end-end.ensures;
     out_is = sym (put_nothing _ _);
     place_is = sym (add-zero _);
     answers = refl;
@@ -150,62 +133,42 @@ loop-holds c = (
   },
 )
 
-sub-reply-to : tie.Need-overflow-sub-reply-to invariant-loop decreases-loop
-sub-reply-to c = starts _ _ _ c.before.loop.invariant.1.at_end
+pub slice_bounds-reply_to-count : goal.slice_bounds-reply_to-count
+slice_bounds-reply_to-count c =
+    starts _ _ _ c.loop-end.invariant.1.at_end
   where
     starts : (i n end : ℕ) → end ≡ i + n → i ≤ end
     starts i n end e = omega arith
 
-part-reply-to-start : tie.Need-slice-bounds-reply-to-start invariant-loop decreases-loop
-part-reply-to-start c = search rules
+pub write_reply-place-requires : goal.write_reply-place-requires
+write_reply-place-requires c = line_room _ _ _ _ _ (asked (goal.at.write_reply-place-requires c).Start) _ _ _ _ _ _ c.loop-end.invariant.1 c.loop-end-test.true _ c.reply_to-reply.ensures
 
-part-reply-to-end : tie.Need-slice-bounds-reply-to-end invariant-loop decreases-loop
-part-reply-to-end c = search rules
+pub counted-t-requires : goal.counted-t-requires
+counted-t-requires c = line_counts _ _ _ _ _ (asked (goal.at.counted-t-requires c).Start) _ _ _ _ _ _ c.loop-end.invariant.1 c.loop-end-test.true _ c.reply_to-reply.ensures
 
-write-reply-requires : tie.Need-write-reply-requires invariant-loop decreases-loop
-write-reply-requires c κs =
-    line_room _ _ _ _ _ (asked c.before.before.before.before.before.before.before.before.requires) _ _ _ _ _ _ c.before.before.before.before.loop.invariant.1 c.before.before.before.loop-test.true _ c.before.reply-to.ensures
-
-counted-requires : tie.Need-counted-requires invariant-loop decreases-loop
-counted-requires c κs =
-    line_counts _ _ _ _ _ (asked c.before.before.before.before.before.before.before.before.before.before.before.requires) _ _ _ _ _ _ c.before.before.before.before.before.before.before.loop.invariant.1 c.before.before.before.before.before.before.loop-test.true _ c.before.before.before.before.reply-to.ensures
-
-add-i : tie.Need-overflow-add-i invariant-loop decreases-loop
-add-i c = search rules
-
-line-end-requires-2 : tie.Need-line-end-requires-2 invariant-loop decreases-loop
-line-end-requires-2 c κs = search rules
-
-loop-less : tie.Need-loop-smaller invariant-loop decreases-loop
-loop-less c = less _ _ _ _ c.before.before.before.before.before.before.before.before.before.loop.invariant.1.at_end c.before.before.before.before.before.before.before.before.loop-test.true
+pub loop-end-smaller : goal.loop-end-smaller
+loop-end-smaller c =
+    less _ _ _ _ c.loop-end.invariant.1.at_end c.loop-end-test.true
   where
     less : (m i n end : ℕ) → end ≡ i + n → end < m → m - (end + 1) < m - i
     less m i n end e h = omega arith
 
-loop-again : tie.Need-loop-preserved invariant-loop decreases-loop
-loop-again c = (
+pub loop-end-preserved : goal.loop-end-preserved
+loop-end-preserved c = (
   _,
-  next _ _ _ _ _ (asked c.before.before.before.before.before.before.before.before.before.before.before.before.before.requires) _ _ _ _ _ _ c.before.before.before.before.before.before.before.before.before.loop.invariant.1 c.before.before.before.before.before.before.before.before.loop-test.true _ c.before.before.before.before.before.before.reply-to.ensures _ _ _ _ c.before.before.before.before.write-reply.ensures.0
-      c.before.before.before.before.write-reply.ensures.1 c.before.counted.ensures c.line-end2.ensures,
+  next _ _ _ _ _ (asked (goal.at.loop-end-preserved c).Start) _ _ _ _ _ _ c.loop-end.invariant.1 c.loop-end-test.true _ c.reply_to-reply.ensures _ _ _ _ c.write_reply-place.ensures.value
+      c.write_reply-place.ensures.out_after c.counted-t.ensures c.line_end-end-in-loop-end.ensures,
 )
 
-same_length : tie.Need-same-length invariant-loop decreases-loop
-same_length c = same_out _ _ _ _ _ (asked c.before.before.before.before.before.requires) _ _ _ _ _ _ c.before.loop.invariant.1
+pub shape_of-out : goal.shape_of-out
+shape_of-out c = same_out _ _ _ _ _ (asked (goal.at.shape_of-out c).Start) _ _ _ _ _ _ c.loop-end.invariant.1
 
-returns : tie.Need-returns invariant-loop decreases-loop
-returns c = (
-  place_after _ _ _ _ _ (asked c.before.before.before.before.before.requires) _ _ _ _ _ _ c.before.loop.invariant.1 c.loop-test.false,
-  (
-    (c.before.loop.invariant.1.i_within, left_all _ _ _ _ _ (asked c.before.before.before.before.before.requires) _ _ _ _ _ _ c.before.loop.invariant.1 c.loop-test.false),
-    (
-      counted_all _ _ _ _ _ (asked c.before.before.before.before.before.requires) _ _ _ _ _ _ c.before.loop.invariant.1 c.loop-test.false,
-      out_after_lem _ _ _ _ _ (asked c.before.before.before.before.before.requires) _ _ _ _ _ _ c.before.loop.invariant.1 c.loop-test.false,
-    ),
-  ),
-)
-
-pub answer_lines_spec : {M : Type 1} → statement M
-answer_lines_spec =
-    tie.close
-    (tie.spec invariant-loop decreases-loop line-end-requires loop-holds sub-reply-to part-reply-to-start part-reply-to-end (λ c κs. search rules) write-reply-requires counted-requires add-i
-    line-end-requires-2 loop-less loop-again same_length returns)
+pub returns : goal.returns
+returns c =
+    let given = asked (goal.at.returns c).Start in
+    record {
+      at_value = place_after _ _ _ _ _ given _ _ _ _ _ _ c.loop-end.invariant.1 c.loop-end-test.false;
+      rest_follows = (c.loop-end.invariant.1.i_within, left_all _ _ _ _ _ given _ _ _ _ _ _ c.loop-end.invariant.1 c.loop-end-test.false);
+      tallies_counted = counted_all _ _ _ _ _ given _ _ _ _ _ _ c.loop-end.invariant.1 c.loop-end-test.false;
+      out_after = out_after_lem _ _ _ _ _ given _ _ _ _ _ _ c.loop-end.invariant.1 c.loop-end-test.false;
+    }

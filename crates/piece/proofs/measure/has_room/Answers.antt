@@ -1,5 +1,4 @@
 -- `has_room` meets its contract. Assumes nothing.
-use borrow.Author.Rules.{rules}
 use borrow.Author.Tests.{le-leb, lt-leb, leb-true, leb-false}
 use Prim.Native.Nat.{ℕ, ◌+◌, ◌-◌, ◌*◌, ◌/◌, ◌≤◌, ◌<◌}
 use native.Mathlib.Omega.{arith}
@@ -11,8 +10,7 @@ use lib.ListN.{length}
 use Rattle.scan.specs.Complete.{feeds}
 use Rattle.piece.specs.Piece.{more}
 use Rattle.scan.proofs.Cutting.{feeds_within}
-use Rattle.piece.proofs.measure.has_room.Statement.{statement}
-use Rattle.piece.proofs.measure.has_room.Tie as tie
+use Rattle.piece.proofs.measure.has_room.Goals as goal
 
 -- the longest answers
 abbrev most : ℕ → List ℕ → ℕ
@@ -40,19 +38,14 @@ module _ (held : ℕ) (p : List ℕ) (room : ℕ) where
         by true k = sym (le-leb _ room (let l : more * n ≤ room - held - length p = leb-true _ _ k in omega arith))
         by false k = sym (lt-leb _ room (let l : room - held - length p < more * n = leb-false _ _ k in omega arith))
 
-returns : tie.Need-returns
-returns c = no_room _ c.before.before.args.piece.now _ c.if1.true
+pub returns-then-room-held : goal.returns-then-room-held
+returns-then-room-held c = no_room _ c.args.piece.now _ c.if-room-held.true
 
-returns-2 : tie.Need-returns-2
-returns-2 c = sixfold _ c.before.before.before.args.piece.now _ c.before.if1.false c.if2.true
+pub returns-then-piece-left : goal.returns-then-piece-left
+returns-then-piece-left c = sixfold _ c.args.piece.now _ c.if-room-held.false c.if-piece-left.true
 
-returns-3 : tie.Need-returns-3
-returns-3 c = too_short _ c.before.before.before.before.args.piece.now _ c.before.before.if1.false c.if3.true
+pub returns-then-left-piece : goal.returns-then-left-piece
+returns-then-left-piece c = too_short _ c.args.piece.now _ c.if-room-held.false c.if-left-piece.true
 
-returns-4 : tie.Need-returns-4
-returns-4 c = counted _ c.before.before.before.before.before.args.piece.now _ c.before.before.before.if1.false _ c.line-feeds.ensures c.before.if3.false
-
-pub has_room_spec : {M : Type 1} → statement M
-has_room_spec =
-    tie.close
-    (tie.spec returns (λ c. search rules) (λ c. search rules) returns-2 returns-3 (λ c κs. search rules) (λ c. search rules) (λ c. search rules) returns-4)
+pub returns : goal.returns
+returns c = counted _ c.args.piece.now _ c.if-room-held.false _ c.line_feeds.ensures c.if-left-piece.false

@@ -1,5 +1,4 @@
 -- `is_short` meets its contract: room for any answers is enough, and else the answers are measured. Assumes nothing.
-use borrow.Author.Rules.{rules}
 use borrow.Author.Tests.{le-ltb, lt-ltb, leb-true, leb-false}
 use Prim.Native.Nat.{ℕ, ◌+◌, ◌*◌, ◌≤◌}
 use native.Mathlib.Omega.{arith}
@@ -14,8 +13,7 @@ use Rattle.state.specs.Holding.{carried, Sound}
 use Rattle.piece.specs.Piece.{more, answer_lines}
 use Rattle.state.proofs.Holds.{held_length}
 use Rattle.piece.proofs.Replied.{answers_length}
-use Rattle.piece.proofs.measure.is_short.Statement.{statement}
-use Rattle.piece.proofs.measure.is_short.Tie as tie
+use Rattle.piece.proofs.measure.is_short.Goals as goal
 
 -- room for any answers to the piece is room for its answers
 enough : (t : Tail) → Sound t → (p : List ℕ) (room : ℕ) (b : Bool) → b ≡ leb (t.count + length p + more * feeds p) room → b ≡ true
@@ -34,11 +32,8 @@ longer n room b e = ap not e ∙ by (leb n room) refl
     by true h = sym (le-ltb room n (leb-true n room h))
     by false h = sym (lt-ltb room n (leb-false n room h))
 
-returns : tie.Need-returns
-returns c = enough _ c.before.before.before.before.requires.0 _ _ _ c.before.has_room.ensures c.if1.true
+pub returns-then-has_room : goal.returns-then-has_room
+returns-then-has_room c = enough _ c.requires.sound _ _ _ c.has_room.ensures c.if-has_room.true
 
-returns-2 : tie.Need-returns-2
-returns-2 c = longer (length (answer_lines (lines_from (carried c.before.before.before.before.before.args.tail) c.before.before.before.before.before.args.piece.now))) c.before.before.before.before.before.args.room _ c.fits2.ensures
-
-pub is_short_spec : {M : Type 1} → statement M
-is_short_spec = tie.close (tie.spec (λ c. search rules) (λ c κs. search rules) returns (λ c κs. search rules) returns-2)
+pub returns : goal.returns
+returns c = longer (length (answer_lines (lines_from (carried c.args.tail) c.args.piece.now))) c.args.room _ c.fits.ensures

@@ -1,5 +1,4 @@
 -- `too_many` meets its contract. Assumes nothing.
-use borrow.Author.Rules.{rules}
 use borrow.Author.Tests.{le-ltb, lt-ltb, ltb-true, ltb-false}
 use Prim.Native.Nat.{ℕ, ◌+◌, ◌-◌, ◌≤◌, ◌<◌}
 use native.Mathlib.Omega.{arith}
@@ -11,8 +10,7 @@ use lib.ListN.{length}
 use Rattle.scan.specs.Complete.{feeds}
 use Rattle.piece.specs.Piece.{most_lines}
 use Rattle.scan.proofs.Cutting.{feeds_within}
-use Rattle.piece.proofs.measure.too_many.Statement.{statement}
-use Rattle.piece.proofs.measure.too_many.Tie as tie
+use Rattle.piece.proofs.measure.too_many.Goals as goal
 
 module _ (n : ℕ) (p : List ℕ) (h : n ≤ most_lines) where
   -- a piece with no more bytes than lines are left
@@ -27,11 +25,8 @@ module _ (n : ℕ) (p : List ℕ) (h : n ≤ most_lines) where
       by true g = sym (lt-ltb most_lines (n + feeds p) (let k : most_lines - n < f = ltb-true (most_lines - n) f g in omega arith))
       by false g = sym (le-ltb most_lines (n + feeds p) (let k : f ≤ most_lines - n = ltb-false (most_lines - n) f g in omega arith))
 
-returns : tie.Need-returns
-returns c = short _ _ (omega arith) c.if1.true
+pub returns-then-piece-left : goal.returns-then-piece-left
+returns-then-piece-left c = short _ _ (omega arith) c.if-piece-left.true
 
-returns-2 : tie.Need-returns-2
-returns-2 c = counted _ _ (omega arith) _ c.line-feeds.ensures
-
-pub too_many_spec : {M : Type 1} → statement M
-too_many_spec = tie.close (tie.spec (λ c. search rules) (λ c. search rules) returns (λ c κs. search rules) returns-2)
+pub returns : goal.returns
+returns c = counted _ _ (omega arith) _ c.line_feeds.ensures

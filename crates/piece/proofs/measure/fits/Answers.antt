@@ -1,5 +1,4 @@
 -- `fits` meets its contract: the tail's line first, and then the others. Assumes nothing.
-use borrow.Author.Rules.{rules}
 use borrow.Author.Tests.{le-leb, lt-leb}
 use Prim.Native.Nat.{ℕ, ◌+◌, ◌-◌, ◌≤◌, ◌<◌}
 use native.Mathlib.Omega.{arith}
@@ -19,8 +18,7 @@ use Rattle.scan.proofs.Cutting.{front_line, front_none, front_before}
 use Rattle.state.proofs.CarriedOn.{first_end, first_held}
 use Rattle.state.proofs.Holds.{sound_as}
 use Rattle.piece.proofs.Replied.{first_length, fits_after, reply_tail}
-use Rattle.piece.proofs.measure.fits.Statement.{statement}
-use Rattle.piece.proofs.measure.fits.Tie as tie
+use Rattle.piece.proofs.measure.fits.Goals as goal
 
 module _ (so p : List ℕ) (room end : ℕ) (e : end ≡ 0 + line_end p) where
   -- no line ends in the piece
@@ -46,26 +44,23 @@ replied : (t : Tail) (p : List ℕ) (first : Carried) (r : Told) (n : ℕ) → f
     → n ≡ length (written (reply_to (carried t ++ take first.end p)))
 replied t p first r n e f g = g ∙ ap (λ (k : Told). length (written k)) (f ∙ reply_tail first.tail (carried t ++ take first.end p) (first_held t p first e))
 
-carry-on-requires : tie.Need-carry-on-requires
-carry-on-requires c κs = (omega arith, c.before.requires)
+pub carry_on-first-requires : goal.carry_on-first-requires
+carry_on-first-requires c = (omega arith, c.requires)
 
-returns : tie.Need-returns
-returns c = none _ _ _ _ (first_end _ _ _ c.before.carry-on.ensures) c.if1.true
+pub returns-then-end-piece : goal.returns-then-end-piece
+returns-then-end-piece c = none _ _ _ _ (first_end _ _ _ c.carry_on-first.ensures) c.if-end-piece.true
 
-reply-to-tail-requires : tie.Need-reply-to-tail-requires
-reply-to-tail-requires c κs = sound_as _ _ (first_held _ _ _ c.before.before.carry-on.ensures)
+pub reply_to_tail-requires : goal.reply_to_tail-requires
+reply_to_tail-requires c = sound_as _ _ (first_held _ _ _ c.carry_on-first.ensures)
 
-returns-2 : tie.Need-returns-2
-returns-2 c = fails _ _ _ _ (first_end _ _ _ c.before.before.before.before.before.carry-on.ensures) (front_before _ _ (first_end _ _ _ c.before.before.before.before.before.carry-on.ensures) c.before.before.before.before.if1.false) _ (replied _ _ _ _ _ c.before.before.before.before.before.carry-on.ensures c.before.before.reply-to-tail.ensures c.before.reply-length.ensures) c.if2.true
+pub returns-then-n-room : goal.returns-then-n-room
+returns-then-n-room c = fails _ _ _ _ (first_end _ _ _ c.carry_on-first.ensures) (front_before _ _ (first_end _ _ _ c.carry_on-first.ensures) c.if-end-piece.false) _ (replied _ _ _ _ _ c.carry_on-first.ensures c.reply_to_tail.ensures c.reply_length-n.ensures) c.if-n-room.true
 
-add-lines-fit : tie.Need-overflow-add-lines-fit
-add-lines-fit c = omega (arith, front_before c.before.before.before.before.before.before.before.args.piece.now c.before.before.before.before.before.carry-on.result.end (first_end _ _ _ c.before.before.before.before.before.carry-on.ensures) c.before.before.before.before.if1.false)
+pub overflow_add-end : goal.overflow_add-end
+overflow_add-end c = omega (arith, front_before c.args.piece.now c.carry_on-first.result.end (first_end _ _ _ c.carry_on-first.ensures) c.if-end-piece.false)
 
-lines-fit-requires : tie.Need-lines-fit-requires
-lines-fit-requires c κs = omega (arith, front_before c.before.before.before.before.before.before.before.args.piece.now c.before.before.before.before.before.carry-on.result.end (first_end _ _ _ c.before.before.before.before.before.carry-on.ensures) c.before.before.before.before.if1.false)
+pub lines_fit-requires : goal.lines_fit-requires
+lines_fit-requires c = omega (arith, front_before c.args.piece.now c.carry_on-first.result.end (first_end _ _ _ c.carry_on-first.ensures) c.if-end-piece.false)
 
-returns-3 : tie.Need-returns-3
-returns-3 c = c.lines_fit.ensures ∙ goes_on _ _ _ _ (first_end _ _ _ c.before.before.before.before.before.before.carry-on.ensures) (front_before _ _ (first_end _ _ _ c.before.before.before.before.before.before.carry-on.ensures) c.before.before.before.before.before.if1.false) _ (replied _ _ _ _ _ c.before.before.before.before.before.before.carry-on.ensures c.before.before.before.reply-to-tail.ensures c.before.before.reply-length.ensures) c.before.if2.false
-
-pub fits_spec : {M : Type 1} → statement M
-fits_spec = tie.close (tie.spec carry-on-requires returns reply-to-tail-requires (λ c κs. search rules) returns-2 add-lines-fit lines-fit-requires returns-3)
+pub returns : goal.returns
+returns c = c.lines_fit.ensures ∙ goes_on _ _ _ _ (first_end _ _ _ c.carry_on-first.ensures) (front_before _ _ (first_end _ _ _ c.carry_on-first.ensures) c.if-end-piece.false) _ (replied _ _ _ _ _ c.carry_on-first.ensures c.reply_to_tail.ensures c.reply_length-n.ensures) c.if-n-room.false
