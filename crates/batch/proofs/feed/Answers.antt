@@ -1,16 +1,14 @@
 -- `feed` meets its contract: the refusals are tried in their order, and what passes them is taken. Assumes nothing.
-use borrow.Author.Rules.{rules}
 use borrow.Author.Tests.{ltb-false}
 use Prim.Native.Nat.{ℕ, ◌+◌, ◌≤◌}
 use native.Mathlib.Nat.{zero-add}
 use native.Mathlib.Omega.{arith}
 use mathlib.Core.Path.{◌≡◌, refl, sym, ap, ◌∙◌}
 use mathlib.Core.Bool.{Bool, true, false}
-use mathlib.Core.List.{List, ◌++◌, map}
+use mathlib.Core.List.{List, ◌++◌}
 use lib.Dec.{ltb}
-use lib.ListN.{length, drop, length-map}
+use lib.ListN.{length, drop}
 use Rattle.text.specs.Bytes.{put}
-use Rattle.lines.specs.Format.{longest}
 use Rattle.state.specs.declared.State.{State}
 use Rattle.batch.specs.declared.Fed.{Fed}
 use Rattle.batch.specs.declared.Verdict.{Verdict}
@@ -21,8 +19,7 @@ use Rattle.piece.specs.declared.Taken.{Taken}
 use Rattle.piece.specs.Piece.{most_lines, answer_lines, added, after}
 use Rattle.batch.specs.Feed.{verdict, state_after, out_after, fed, Did}
 use Rattle.state.proofs.Unbroken.{tail_sound, adds_up}
-use Rattle.batch.proofs.feed.Statement.{statement}
-use Rattle.batch.proofs.feed.Tie as tie
+use Rattle.batch.proofs.feed.Goals as goal
 
 -- the answer lines of a piece
 abbrev answers : State → List ℕ → List ℕ
@@ -77,33 +74,24 @@ shorter : (s : State) (p : List ℕ) (room : ℕ) (b : Bool) {t : Bool} → b �
 unfolding added
 shorter s p room b e f = sym e ∙ f
 
-returns : tie.Need-returns
-returns c = is_five _ _ _ (sym c.before.is-broken.ensures ∙ c.if1.true)
+pub returns-then-is_broken : goal.returns-then-is_broken
+returns-then-is_broken c = is_five _ _ _ (sym c.is_broken.ensures ∙ c.if-is_broken.true)
 
-returns-2 : tie.Need-returns-2
-returns-2 c = is_six _ _ _ (sym c.before.before.before.is-broken.ensures ∙ c.before.before.if1.false) (sym c.before.too_many.ensures ∙ c.if2.true)
-
--- what the type of an array says of the tail's places
-places : (s : State) → length (map (λ (b : ℕ). b) s.tail.bytes) ≡ longest → length s.tail.bytes ≡ longest
-places s h = sym (length-map s.tail.bytes (λ (b : ℕ). b)) ∙ h
+pub returns-then-too_many : goal.returns-then-too_many
+returns-then-too_many c = is_six _ _ _ (sym c.is_broken.ensures ∙ c.if-is_broken.false) (sym c.too_many.ensures ∙ c.if-too_many.true)
 
 -- the line feeds of the piece alone are no more than can be counted
 few : (n f : ℕ) → n + f ≤ most_lines → f ≤ most_lines
 few n f h = omega arith
 
-is-short-requires : tie.Need-is-short-requires
-is-short-requires c κs = (tail_sound c.before.before.before.before.before.before.before.args.state (sym c.before.before.before.before.is-broken.ensures ∙ c.before.before.before.if1.false) (places c.before.before.before.before.before.before.before.args.state c.before.before.before.before.before.before.before.well-formed.0.1.1.0.1.1.0.1.0.1), few _ _ (ltb-false _ _ (sym c.before.before.too_many.ensures ∙ c.before.if2.false)))
+pub is_short-requires : goal.is_short-requires
+is_short-requires c = record { sound = tail_sound c.args.state (sym c.is_broken.ensures ∙ c.if-is_broken.false) (omega arith); countable = few _ _ (ltb-false _ _ (sym c.too_many.ensures ∙ c.if-too_many.false)) }
 
-returns-3 : tie.Need-returns-3
-returns-3 c = is_seven _ _ _ (sym c.before.before.before.before.before.before.is-broken.ensures ∙ c.before.before.before.before.before.if1.false) (sym c.before.before.before.before.too_many.ensures ∙ c.before.before.before.if2.false) (shorter _ _ _ _ c.before.is-short.ensures c.if3.true)
+pub returns-then-is_short : goal.returns-then-is_short
+returns-then-is_short c = is_seven _ _ _ (sym c.is_broken.ensures ∙ c.if-is_broken.false) (sym c.too_many.ensures ∙ c.if-too_many.false) (shorter _ _ _ _ c.is_short.ensures c.if-is_short.true)
 
-take-piece-requires : tie.Need-take-piece-requires
-take-piece-requires c κs = (tail_sound c.before.before.before.before.before.before.before.before.before.before.args.state (sym c.before.before.before.before.before.before.before.is-broken.ensures ∙ c.before.before.before.before.before.before.if1.false) (places c.before.before.before.before.before.before.before.before.before.before.args.state c.before.before.before.before.before.before.before.before.before.before.well-formed.0.1.1.0.1.1.0.1.0.1), (adds_up c.before.before.before.before.before.before.before.before.before.before.args.state (sym c.before.before.before.before.before.before.before.is-broken.ensures ∙ c.before.before.before.before.before.before.if1.false), (ltb-false _ _ (sym c.before.before.before.before.before.too_many.ensures ∙ c.before.before.before.before.if2.false), ltb-false _ _ (shorter _ _ _ _ c.before.before.is-short.ensures c.before.if3.false))))
+pub take_piece-taken-requires : goal.take_piece-taken-requires
+take_piece-taken-requires c = record { sound = tail_sound c.args.state (sym c.is_broken.ensures ∙ c.if-is_broken.false) (omega arith); adds_up = adds_up c.args.state (sym c.is_broken.ensures ∙ c.if-is_broken.false); countable = ltb-false _ _ (sym c.too_many.ensures ∙ c.if-too_many.false); room = ltb-false _ _ (shorter _ _ _ _ c.is_short.ensures c.if-is_short.false) }
 
-returns-4 : tie.Need-returns-4
-returns-4 c = taken _ _ _ (sym c.before.before.before.before.before.before.before.before.before.before.before.is-broken.ensures ∙ c.before.before.before.before.before.before.before.before.before.before.if1.false) (sym c.before.before.before.before.before.before.before.before.before.too_many.ensures ∙ c.before.before.before.before.before.before.before.before.if2.false) (shorter _ _ _ _ c.before.before.before.before.before.before.is-short.ensures c.before.before.before.before.before.if3.false) _ _ c.before.before.before.take-piece.ensures.0 c.before.before.before.take-piece.ensures.1
-
-pub feed_spec : {M : Type 1} → statement M
-feed_spec =
-    tie.close
-    (tie.spec (λ c κs. search rules) returns (λ c κs. search rules) returns-2 is-short-requires returns-3 take-piece-requires (λ c. search rules) returns-4)
+pub returns : goal.returns
+returns c = taken _ _ _ (sym c.is_broken.ensures ∙ c.if-is_broken.false) (sym c.too_many.ensures ∙ c.if-too_many.false) (shorter _ _ _ _ c.is_short.ensures c.if-is_short.false) _ _ c.take_piece-taken.ensures.value c.take_piece-taken.ensures.out_after
