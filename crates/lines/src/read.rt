@@ -7,7 +7,7 @@ use crate::{LARGEST_ID, LONGEST, Line};
 use text::{all_hex, hex_number};
 
 // What reading a field finds: its value and the place after it.
-#[derive(Drop)]
+#[derive(Clone, Copy)]
 pub(crate) enum Field {
     Read(u32, usize),
     Missing,
