@@ -11,7 +11,7 @@ use lib.Dec.{eqb, ltb, leb}
 use lib.ListN.{length, get_or, drop, length-drop}
 use lib.Seq.{get_or-drop}
 use Rattle.text.specs.Digits.{is_decimal, value}
-use Rattle.lines.specs.Fields.{digits_at, dAt}
+use Rattle.lines.specs.Fields.{digits_at, d_at}
 use Rattle.lines.specs.Format.{is_d, largest_id}
 use Rattle.lines.specs.declared.read.Field.TheVariants.{Read, Missing}
 use Rattle.lines.proofs.Ids.{d_is}
@@ -45,7 +45,7 @@ abbrev Run : List ℕ → ℕ → ℕ → ℕ → Type 0
 Run l from d e = Found (leb (value 10 (digits_at from l)) largest_id) (value 10 (digits_at from l)) (from + length (digits_at from l)) d e
 
 module _ (l : List ℕ) (from d e : ℕ) (r : Run l from d e) where
-  read : (length (digits_at from l) ≡ 1) ⊎ (get_or (digits_at from l) 0 0 ≡ 48 → ⊥) → 0 < length (digits_at from l) → Read d e ≡ dAt from l
+  read : (length (digits_at from l) ≡ 1) ⊎ (get_or (digits_at from l) 0 0 ≡ 48 → ⊥) → 0 < length (digits_at from l) → Read d e ≡ d_at from l
   read lead some =
       there _ _ _ _ _
       (record {
@@ -54,16 +54,16 @@ module _ (l : List ℕ) (from d e : ℕ) (r : Run l from d e) where
         place = r.place;
       })
 
-  no_digit : e ≡ from → Missing ≡ dAt from l
+  no_digit : e ≡ from → Missing ≡ d_at from l
   no_digit h = not_there _ _ _ (empty (digits_at from l) (omega (arith, r.place)))
 
-  zero_first : 1 < e - from → get_or l from 0 ≡ 48 → Missing ≡ dAt from l
+  zero_first : 1 < e - from → get_or l from 0 ≡ 48 → Missing ≡ d_at from l
   zero_first h k = not_there _ _ _ (led_by_zero (digits_at from l) (omega (arith, r.place)) (first l from (omega (arith, r.place)) ∙ k))
 
-  several : 1 < e - from → (get_or l from 0 ≡ 48 → ⊥) → Read d e ≡ dAt from l
+  several : 1 < e - from → (get_or l from 0 ≡ 48 → ⊥) → Read d e ≡ d_at from l
   several h k = read (inr (λ z. k (sym (first l from (omega (arith, r.place))) ∙ z))) (omega (arith, r.place))
 
-  single : (e ≡ from → ⊥) → e - from ≤ 1 → Read d e ≡ dAt from l
+  single : (e ≡ from → ⊥) → e - from ≤ 1 → Read d e ≡ d_at from l
   single h k = read (inl (omega (arith, r.place))) (omega (arith, r.place))
 
 -- the run of digits, as it was read

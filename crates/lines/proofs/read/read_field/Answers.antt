@@ -9,7 +9,7 @@ use lib.ListN.{length, get_or, drop}
 use lib.Seq.{drop-drop}
 use Rattle.text.specs.Bytes.{all, eight_at}
 use Rattle.text.specs.Digits.{is_hex}
-use Rattle.lines.specs.Fields.{hAt, key_of, hex_at}
+use Rattle.lines.specs.Fields.{h_at, key_of, hex_at}
 use Rattle.lines.specs.Format.{hex_digits, has_hex}
 use Rattle.lines.specs.declared.read.Field.{Field}
 use Rattle.lines.proofs.Reading.{not_there, inside, begins_key}
@@ -29,7 +29,7 @@ module _ (l : List ℕ) (at key : ℕ) (positive : 0 < key) where
   unfolding has_hex
   known a b c d p q r s = rw (begins_key key l at positive, after, p, q, r, s) refl
 
-  read : (res : Field) → eqb (get_or l at 0) key ≡ true → eqb (get_or l (at + 1) 0) 61 ≡ true → res ≡ hAt (at + 2) l → res ≡ hex_at key at l
+  read : (res : Field) → eqb (get_or l at 0) key ≡ true → eqb (get_or l (at + 1) 0) 61 ≡ true → res ≡ h_at (at + 2) l → res ≡ hex_at key at l
   read res p q e = e ∙ rw (known true true _ _ p q refl refl, after, ten) refl
     where
       ten : at + 10 ≡ at + 2 + 8

@@ -7,7 +7,7 @@ use native.Mathlib.Omega.{arith}
 use lib.Dec.{eqb, lit<}
 use lib.ListN.{length, get_or}
 use Rattle.text.specs.Digits.{value}
-use Rattle.lines.specs.Fields.{digits_at, dAt, id_of}
+use Rattle.lines.specs.Fields.{digits_at, d_at, id_of}
 use Rattle.lines.specs.Format.{is_d, id_digits, has_id}
 use Rattle.lines.specs.declared.read.Field.TheVariants.{Read, Missing}
 use Rattle.lines.proofs.Reading.{Found, found, missing, there, not_there, inside, begins_id}
@@ -38,7 +38,7 @@ abbrev IdRead : List ℕ → ℕ → ℕ → Type 0
 IdRead l d e = Found (is_d (digits_at 3 l)) (value 10 (digits_at 3 l)) (3 + length (digits_at 3 l)) d e
 
 module _ (l : List ℕ) (k : Key l) where
-  no_d : Missing ≡ dAt 3 l → has_id l ≡ false
+  no_d : Missing ≡ d_at 3 l → has_id l ≡ false
   no_d m = known l true true true false _ k.first k.second k.third (missing _ _ _ m) refl
 
   tested : (d e : ℕ) → IdRead l d e → (t : Bool) → eqb (get_or l e 0) 32 ≡ t → has_id l ≡ t

@@ -11,7 +11,7 @@ use lib.ListN.{length, get_or, drop, length-drop}
 use lib.Seq.{drop-drop, get_or-drop}
 use Rattle.text.specs.Digits.{value}
 use Rattle.text.specs.Bytes.{begins}
-use Rattle.lines.specs.Format.{longest, id_key, is_d, xKey, yKey, id_digits, has_id, after_id, hex_digits, has_hex, has_x, after_x, has_y, read_line}
+use Rattle.lines.specs.Format.{longest, id_key, is_d, x_key, y_key, id_digits, has_id, after_id, hex_digits, has_hex, has_x, after_x, has_y, read_line}
 use Rattle.lines.specs.declared.Line.TheVariants.{Pair, TooLong, NoId, NoX, NoY}
 use Rattle.lines.proofs.Reading.{Found, found, missing, inside}
 use Rattle.lines.proofs.read.read_line.Goals as goal
@@ -39,7 +39,7 @@ module _ (l : List ℕ) (short : length l ≤ longest) where
     unfolding after_id
     after_id_lem = rw i.place refl
 
-    x_tested : has_x (after_id l) ≡ (has_hex xKey (drop a l) && eqb (get_or l (a + 10) 0) 32)
+    x_tested : has_x (after_id l) ≡ (has_hex x_key (drop a l) && eqb (get_or l (a + 10) 0) 32)
     unfolding has_x
     x_tested = rw (after_id_lem, get_or-drop a l 10 0) refl
 
@@ -47,10 +47,10 @@ module _ (l : List ℕ) (short : length l ≤ longest) where
     unfolding read_line
     no_x h = rw (le-ltb longest (length l) short, i.holds, h) refl
 
-    x_missing : has_hex xKey (drop a l) ≡ false → NoX ≡ read_line l
+    x_missing : has_hex x_key (drop a l) ≡ false → NoX ≡ read_line l
     x_missing h = no_x (x_tested ∙ rw h refl)
 
-    module _ (x b : ℕ) (f : Hex xKey l a x b) where
+    module _ (x b : ℕ) (f : Hex x_key l a x b) where
       no_space : eqb (get_or l b 0) 32 ≡ false → NoX ≡ read_line l
       no_space h = no_x (x_tested ∙ rw (f.holds, ← f.place, h) refl)
 
@@ -58,7 +58,7 @@ module _ (l : List ℕ) (short : length l ≤ longest) where
 record Half (l : List ℕ) (d a x b : ℕ) : Type 0 where
   short : length l ≤ longest
   id : Id l d a
-  field : Hex xKey l a x b
+  field : Hex x_key l a x b
   space : eqb (get_or l b 0) 32 ≡ true
 
 module _ (l : List ℕ) (d a x b : ℕ) (r : Half l d a x b) where
@@ -73,7 +73,7 @@ module _ (l : List ℕ) (d a x b : ℕ) (r : Half l d a x b) where
       next : a + 11 ≡ b + 1
       next = omega (arith, r.field.place)
 
-  y_tested : has_y (after_x (after_id l)) ≡ (has_hex yKey (drop (b + 1) l) && eqb (length (drop (b + 1) l)) 10)
+  y_tested : has_y (after_x (after_id l)) ≡ (has_hex y_key (drop (b + 1) l) && eqb (length (drop (b + 1) l)) 10)
   unfolding has_y
   y_tested = rw after_x_lem refl
 
@@ -81,10 +81,10 @@ module _ (l : List ℕ) (d a x b : ℕ) (r : Half l d a x b) where
   unfolding read_line
   no_y h = rw (le-ltb longest (length l) r.short, r.id.holds, has_x_lem, h) refl
 
-  y_missing : has_hex yKey (drop (b + 1) l) ≡ false → NoY ≡ read_line l
+  y_missing : has_hex y_key (drop (b + 1) l) ≡ false → NoY ≡ read_line l
   y_missing h = no_y (y_tested ∙ rw h refl)
 
-  module _ (y e : ℕ) (g : Hex yKey l (b + 1) y e) where
+  module _ (y e : ℕ) (g : Hex y_key l (b + 1) y e) where
     more : (e ≡ length l → ⊥) → NoY ≡ read_line l
     more h = no_y (y_tested ∙ rw (g.holds, ne_eqb (length (drop (b + 1) l)) 10 (λ k. h (omega (arith, k, g.place, length-drop (b + 1) l)))) refl)
 
@@ -113,7 +113,7 @@ module _ (l : List ℕ) (d a x b : ℕ) (r : Half l d a x b) where
 the_id : (c : In-Read) → Id c.args.line.now c.in-Read.id c.in-Read.from_x
 the_id c = found _ _ _ _ _ c.in-Read.ensures
 
-the_x : (c : In-Read-read_hex) → Hex xKey c.args.line.now c.in-Read.from_x c.in-Read-read_hex.x c.in-Read-read_hex.after_x
+the_x : (c : In-Read-read_hex) → Hex x_key c.args.line.now c.in-Read.from_x c.in-Read-read_hex.x c.in-Read-read_hex.after_x
 the_x c = found _ _ _ _ _ c.in-Read-read_hex.ensures
 
 half : (c : Else-not-stands) → Half c.args.line.now c.in-Read.id c.in-Read.from_x c.in-Read-read_hex.x c.in-Read-read_hex.after_x
@@ -125,7 +125,7 @@ half c =
       space = sym c.stands.ensures ∙ c.if-not-stands.false;
     }
 
-the_y : (c : In-Read-read_hex-2) → Hex yKey c.args.line.now (c.in-Read-read_hex.after_x + 1) c.in-Read-read_hex-2.y c.in-Read-read_hex-2.end
+the_y : (c : In-Read-read_hex-2) → Hex y_key c.args.line.now (c.in-Read-read_hex.after_x + 1) c.in-Read-read_hex-2.y c.in-Read-read_hex-2.end
 the_y c = found _ _ _ _ _ c.in-Read-read_hex-2.ensures
 
 -- an id that was read ends within the line, and so does an x with its space

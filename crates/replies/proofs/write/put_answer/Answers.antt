@@ -19,8 +19,8 @@ use Rattle.replies.proofs.write.put_answer.Goals.{After-put_bytes-digits, After-
 abbrev to_id : ℕ → List ℕ
 to_id d = id_key ++ decimal d
 
-abbrev rKey : List ℕ
-rKey = 32 ∷ 114 ∷ 61 ∷ []
+abbrev r_key : List ℕ
+r_key = 32 ∷ 114 ∷ 61 ∷ []
 
 abbrev pattern : Answer → List ℕ
 pattern a = hex (answer_pattern (outcome a).value)
@@ -30,15 +30,15 @@ route a = ending (outcome a).via
 
 -- room for the line is room for its parts
 module _ (at d n : ℕ) (a : Answer) (h : at + length (written (answered d (outcome a))) ≤ n) where
-  pattern_fits : at + length (to_id d ++ rKey ++ pattern a) ≤ n
+  pattern_fits : at + length (to_id d ++ r_key ++ pattern a) ≤ n
   unfolding written
-  pattern_fits = first_part at n (to_id d ++ rKey ++ pattern a) (route a) h
+  pattern_fits = first_part at n (to_id d ++ r_key ++ pattern a) (route a) h
 
-  r_fits : at + length (to_id d ++ rKey) ≤ n
-  r_fits = first_part at n (to_id d ++ rKey) (pattern a) pattern_fits
+  r_fits : at + length (to_id d ++ r_key) ≤ n
+  r_fits = first_part at n (to_id d ++ r_key) (pattern a) pattern_fits
 
   id_fits : at + length (to_id d) ≤ n
-  id_fits = first_part at n (to_id d) rKey r_fits
+  id_fits = first_part at n (to_id d) r_key r_fits
 
 pub put_number-key-requires : goal.put_number-key-requires
 put_number-key-requires c = id_fits _ _ _ _ c.requires
@@ -49,19 +49,19 @@ after_id_lem : (c : After-put_number-key)
 after_id_lem c = record { place = c.put_number-key.ensures.value; bytes = c.put_number-key.ensures.out_after }
 
 pub put_bytes-digits-requires : goal.put_bytes-digits-requires
-put_bytes-digits-requires c = room (after_id_lem (goal.at.put_bytes-digits-requires c).After-put_number-key) rKey (r_fits _ _ _ _ c.requires)
+put_bytes-digits-requires c = room (after_id_lem (goal.at.put_bytes-digits-requires c).After-put_number-key) r_key (r_fits _ _ _ _ c.requires)
 
 -- what is written after ` r=`
 after_r : (c : After-put_bytes-digits)
-    → Wrote c.args.out.now c.args.at (to_id c.args.id ++ rKey) c.put_bytes-digits.new.out c.put_bytes-digits.result
+    → Wrote c.args.out.now c.args.at (to_id c.args.id ++ r_key) c.put_bytes-digits.new.out c.put_bytes-digits.result
 after_r c =
-    then (record { place = c.put_number-key.ensures.value; bytes = c.put_number-key.ensures.out_after }) rKey (r_fits _ _ _ _ c.requires)
+    then (record { place = c.put_number-key.ensures.value; bytes = c.put_number-key.ensures.out_after }) r_key (r_fits _ _ _ _ c.requires)
     (record { place = c.put_bytes-digits.ensures.value; bytes = c.put_bytes-digits.ensures.out_after })
 
-pub put_digits-route-requires-clause-k_in_bounds : goal.put_digits-route-requires-clause-k_in_bounds
-put_digits-route-requires-clause-k_in_bounds c =
+pub put_digits-route-requires-clause-room : goal.put_digits-route-requires-clause-room
+put_digits-route-requires-clause-room c =
     eight _ _ _
-    (room (after_r (goal.at.put_digits-route-requires-clause-k_in_bounds c).After-put_bytes-digits) (pattern c.args.answer) (pattern_fits _ _ _ _ c.requires))
+    (room (after_r (goal.at.put_digits-route-requires-clause-room c).After-put_bytes-digits) (pattern c.args.answer) (pattern_fits _ _ _ _ c.requires))
   where
     eight : (n at m : ℕ) → at + length (hex n) ≤ m → at + 8 ≤ m
     eight n at m h = omega (arith, length_hex n)
@@ -77,11 +77,11 @@ wrote_hex before at n k e p =
 
 -- what is written after the pattern
 after_pattern : (c : After-put_digits-route)
-    → Wrote c.args.out.now c.args.at (to_id c.args.id ++ rKey ++ pattern c.args.answer)
+    → Wrote c.args.out.now c.args.at (to_id c.args.id ++ r_key ++ pattern c.args.answer)
     c.put_digits-route.new.out c.put_digits-route.result
 after_pattern c =
     then
-    (then (record { place = c.put_number-key.ensures.value; bytes = c.put_number-key.ensures.out_after }) rKey (r_fits _ _ _ _ c.requires) (record { place = c.put_bytes-digits.ensures.value; bytes = c.put_bytes-digits.ensures.out_after }))
+    (then (record { place = c.put_number-key.ensures.value; bytes = c.put_number-key.ensures.out_after }) r_key (r_fits _ _ _ _ c.requires) (record { place = c.put_bytes-digits.ensures.value; bytes = c.put_bytes-digits.ensures.out_after }))
     (pattern c.args.answer) (pattern_fits _ _ _ _ c.requires)
     (wrote_hex _ _ _ _ c.pattern-n.ensures (c.put_digits-route.ensures.value, c.put_digits-route.ensures.out_after))
 
