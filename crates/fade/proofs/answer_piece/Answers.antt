@@ -1,12 +1,6 @@
--- `answer_piece` meets its contract: a feed writes no more than the output has, and answers neither 5 nor 7. Assumes nothing.
-use borrow.Author.Rules.{rules}
+-- A feed writes no more than the output has, and answers neither 5 nor 7.
+use Rattle.std.proofs.Common.{◌≡◌, ℕ, ◌+◌, ◌≤◌, zero-le, List, length, Bool, true, false, cond, ltb, refl, sym, ap, ◌∙◌, subst}
 use borrow.Author.Tests.{ltb-false}
-use Prim.Native.Nat.{ℕ, ◌+◌, ◌≤◌, zero-le}
-use mathlib.Core.Path.{◌≡◌, refl, sym, ap, ◌∙◌, subst}
-use mathlib.Core.Bool.{Bool, true, false, cond}
-use mathlib.Core.List.{List}
-use lib.Dec.{ltb}
-use lib.ListN.{length}
 use Rattle.state.specs.declared.State.{State}
 use Rattle.batch.specs.declared.Verdict.{Verdict}
 use Rattle.batch.specs.declared.Verdict.TheVariants.{Accepted, Broken, TooManyLines, NoRoom}
@@ -20,8 +14,7 @@ use Rattle.batch.proofs.Room.{never_seven}
 use Rattle.batch.proofs.NotFive.{feed_not_five}
 use Rattle.fade.specs.declared.Next.{Next}
 use Rattle.fade.specs.Run.{AfterFeed, Answered}
-use Rattle.fade.proofs.answer_piece.Statement.{statement}
-use Rattle.fade.proofs.answer_piece.Tie as tie
+use Rattle.fade.proofs.answer_piece.Goals as goal
 
 -- a feed says that it wrote no more than the output has
 wrote_within : (s : State) (p : List ℕ) (room : ℕ) → said (verdict s p room) ≤ room
@@ -53,19 +46,16 @@ module _ (s : State) (p out : List ℕ) (r : Fed) (out' : List ℕ) (d : Did s p
         output = d.output ∙ ap (λ (v : Verdict). out_after v s p out) verdict_is;
       }
 
-print-answers-requires : tie.Need-print-answers-requires
-print-answers-requires c κs =
-    let d = c.before.before.before.before.feed.ensures in (
-      λ n e. rw c.before.before.before.before.feed.auto.1.1.0 (told _ _ _ _ _ d n e),
-      (
-        λ e. feed_not_five _ c.before.before.before.before.before.before.before.before.requires.0 _ _ (sym (verdict_is _ _ _ _ _ d) ∙ e),
-        λ e. never_seven _ _ _ c.before.before.before.before.before.before.before.before.requires.1 (sym (verdict_is _ _ _ _ _ d) ∙ e),
-      ),
-    )
+pub print_answers-next-requires-clause-fits : goal.print_answers-next-requires-clause-fits
+print_answers-next-requires-clause-fits g c n e = simp c.feed-fed.auto.out (told _ _ _ _ _ c.feed-fed.ensures n e)
 
-returns : tie.Need-returns
-returns c = answered _ _ _ _ _ c.before.before.before.before.before.feed.ensures _ c.print-answers.ensures
+pub print_answers-next-requires-clause-not_broken : goal.print_answers-next-requires-clause-not_broken
+print_answers-next-requires-clause-not_broken g c e =
+    feed_not_five _ c.requires.not_broken _ _ (sym (verdict_is _ _ _ _ _ c.feed-fed.ensures) ∙ e)
 
-pub answer_piece_spec : {M : Type 1} → statement M
-answer_piece_spec =
-    tie.close (tie.spec (λ c κs. search rules) print-answers-requires (λ c. search rules) returns)
+pub print_answers-next-requires-clause-has_room : goal.print_answers-next-requires-clause-has_room
+print_answers-next-requires-clause-has_room g c e =
+    never_seven _ _ _ c.requires.has_room (sym (verdict_is _ _ _ _ _ c.feed-fed.ensures) ∙ e)
+
+pub returns : goal.returns
+returns g c = answered _ _ _ _ _ c.feed-fed.ensures _ c.print_answers-next.ensures
