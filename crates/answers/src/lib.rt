@@ -1,6 +1,8 @@
 // What is proved of every answer of `compound`: when it is a NaN, its sign, and for whole exponents
 // how near it is to the exact (1+x)^y. The claims are in specs/Claims.antt. And what no pair comes to
 // on its way: specs/Reached.antt.
+#![tactic(auto)]
+
 ghost use Rattle.answers.specs.Claims.{Claims};
 ghost use Rattle.answers.specs.Reached.{Reached};
 

@@ -1,6 +1,8 @@
 // The compound function (1 + x)^y in f32, with the route that its answer took. A translation of
 // `f_compoundf` in `compoundf.rs` of pxfm 0.1.30 (NOTICE). For every pair of patterns the answer is
 // the definition's, in specs/Route.antt, route and value.
+#![tactic(auto)]
+
 ghost use Rattle.std.specs.Prelude.{◌≡◌};
 ghost use Rattle.std.specs.Float.{binary32};
 ghost use Rattle.std.specs.Float.Ieee.{of_bits};
@@ -15,7 +17,7 @@ use whole::{is_whole, whole};
 mod route;
 
 // The answer: one of five routes, each carrying its f32.
-#[derive(Drop)]
+#[derive(Clone, Copy)]
 pub enum Answer {
     Rule(f32),
     Whole(f32),

@@ -18,9 +18,9 @@ use slow_path::compoundf_accurate;
 
 // The routes `fast` and `slow`: whichever the tests in `exp2_fast` say.
 fn decided(x: f64, y: f64, t: f64) -> Answer
-    requires fact_1 { spec.Tabled x y }
-    requires fact_2 { T (lt (fin true 75 (pos 1)) t) }
-    requires fact_3 { T (lt t (fin false 1 (pos 7))) }
+    requires tabled { spec.Tabled x y }
+    requires t_above { T (lt (fin true 75 (pos 1)) t) }
+    requires t_below { T (lt t (fin false 1 (pos 7))) }
     ensures { outcome result ≡ spec.decided x y (exp2_fast t) }
 {
     let res = exp2_fast(t);

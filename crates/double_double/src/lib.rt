@@ -9,7 +9,7 @@ ghost use Rattle.double_double.specs.DoubleDouble as spec;
 
 // The number is hi + lo. Laid out as in C, so that exported functions can take and return one.
 #[repr(C)]
-#[derive(Drop)]
+#[derive(Clone, Copy)]
 pub struct DoubleDouble {
     pub lo: f64,
     pub hi: f64,

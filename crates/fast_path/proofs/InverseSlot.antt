@@ -1,7 +1,7 @@
 -- The index of the inverse: t lies in the slot of its index i, from (i + 45)/64 to (i + 46)/64 and a little more, so that r × t for the inverse r of that index is
 -- within 1/64 of 1 and a little more, by a test that is computed over the table; and so is what `dd_fmla` gives for r × t - 1 (`inverse_slot`). Assumes
 -- nothing.
-use Rattle.std.proofs.Common.{◌≡◌, ℕ, ◌+◌, ◌-◌, ◌*◌, ◌/◌, ◌^◌, ◌<◌, ◌≤◌, Bool, true, ◌&&◌, T, leb, sym, refl, ap, ◌∙◌, subst, le_trans, le_of_eq, le_of_lt, le_antisymm, mul-pos, arith, lit<}
+use Rattle.std.proofs.Common.{◌≡◌, ℕ, ◌+◌, ◌-◌, ◌*◌, ◌/◌, ◌^◌, ◌<◌, ◌≤◌, Bool, true, ◌&&◌, T, leb, sym, refl, ap, ◌∙◌, subst, le_trans, le_of_eq, le_of_lt, le_antisymm, mul-pos, arith, lit<, false}
 use lib.Ieee.{Float, binary64, fits, to_bits, of_bits}
 use Rattle.floats.specs.Operations.{◌⊕◌, ◌⊗◌, f64}
 use Rattle.double_double.specs.DoubleDouble.{dd_fmla}
@@ -56,6 +56,12 @@ record FitsSlot (k : ℕ) (r : Float) : Type 0 where
 
 six : (a b c d e f : Bool) → T (a && b && c && d && e && f) → T a × T b × T c × T d × T e × T f
 six true true true true true true h = (tt, tt, tt, tt, tt, tt)
+six false b c d e f h = elim h [ ]
+six true false c d e f h = elim h [ ]
+six true true false d e f h = elim h [ ]
+six true true true false e f h = elim h [ ]
+six true true true true false f h = elim h [ ]
+six true true true true true false h = elim h [ ]
 
 inverse_fits : (k : ℕ) → k < 46 → FitsSlot k (entry log2p1_compoundf_inv k)
 unfolding entry log2p1_compoundf_inv of_bits fits

@@ -295,6 +295,10 @@ inverse_is k h =
   where
     four : (a b c d : Bool) → T (a && b && c && d) → T a × T b × T c × T d
     four true true true true h = (tt, tt, tt, tt)
+    four false b c d h = elim h [ ]
+    four true false c d h = elim h [ ]
+    four true true false d h = elim h [ ]
+    four true true true false h = elim h [ ]
 
 -- the rounded product
 near_of : {R T Q : ℕ} {r t : Float} → Count unit8 R 0 r → Count S T 0 t → Count S Q 0 (r ⊗ t) → R ≤ 2 ^ 9 → T ≤ 3 * 2 ^ 52 → (R * T ≤ Q * 2 ^ 8 + 2 ^ 11) × (Q * 2 ^ 8 ≤ R * T + 2 ^ 11)

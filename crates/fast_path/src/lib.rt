@@ -1,6 +1,8 @@
 // The fast part of the table path: the logarithm of 1 + x and a power of two, each by a table and a
 // polynomial. A translation of `compoundf.rs` of pxfm 0.1.30 (NOTICE); names and the order of the
 // operations are the source's.
+#![tactic(auto)]
+
 ghost use Rattle.std.specs.Prelude.{◌≡◌, true, false, T, pos};
 ghost use Rattle.std.specs.Float.{fin};
 ghost use Rattle.std.specs.Float.Ieee.{lt};
@@ -23,7 +25,7 @@ use tables::{
 pub mod scaling;
 
 // What `exp2_fast` finds: a number near 2^t where the rounding test passes, or that it fails.
-#[derive(Drop)]
+#[derive(Clone, Copy)]
 pub enum Exp2 {
     Rounded(f64),
     Failed,
@@ -67,8 +69,8 @@ pub fn inverse_index(t: f64) -> u64
 // r * t - 1 for the inverse r of t, as `dd_fmla` has it. r has at most nine digits, so that its
 // products with the two parts of t are exact.
 pub fn times_minus_one(r: f64, t: f64) -> f64
-    requires fact_1 { spec.HasInverse t }
-    requires fact_2 { r ≡ entry log2p1_compoundf_inv (spec.inverse_index t) }
+    requires has_inverse { spec.HasInverse t }
+    requires r_is_inverse { r ≡ entry log2p1_compoundf_inv (spec.inverse_index t) }
     ensures { result ≡ dd_fmla r t minus_one }
 {
     // 2^26, so that the sum is rounded to a whole number of 2^-26
@@ -162,8 +164,8 @@ fn pattern_test(w: u64, e: u64) -> Exp2
 
 // Near 2^t, where the rounding test passes.
 pub fn exp2_fast(t: f64) -> Exp2
-    requires fact_1 { T (lt (fin true 75 (pos 1)) t) }
-    requires fact_2 { T (lt t (fin false 1 (pos 7))) }
+    requires t_above { T (lt (fin true 75 (pos 1)) t) }
+    requires t_below { T (lt t (fin false 1 (pos 7))) }
     ensures { result ≡ spec.exp2_fast t }
 {
     let k = round_ties_even(t);

@@ -1,6 +1,6 @@
 -- The plain factor of the logarithm's polynomial beside the fast path's, for a z and a z' at most 40 × 2^-53 from each other: at most 120 × 2^-53 (`factor_beside`); and its size
 -- (`plain_factor_lem`). Numbers are on the scale of 1, where 2^53 is 1. Assumes nothing.
-use Rattle.std.proofs.Common.{ℕ, ◌+◌, ◌*◌, ◌^◌, Bool, true, ◌&&◌, T, lit<}
+use Rattle.std.proofs.Common.{ℕ, ◌+◌, ◌*◌, ◌^◌, Bool, true, ◌&&◌, T, lit<, false}
 use lib.Ieee.{Float}
 use Rattle.floats.specs.Operations.{◌⊕◌, ◌⊗◌}
 use Rattle.tables.specs.Tables.{entry, log2p1_poly_p}
@@ -20,6 +20,9 @@ plain_bound {K} {L} {C} p q r g =
   where
     three : (a b c : Bool) → T (a && b && c) → T a × T b × T c
     three true true true h = (tt, tt, tt)
+    three false b _ h = elim h [ ]
+    three true false _ h = elim h [ ]
+    three true true false h = elim h [ ]
 
 -- ---- the sizes of the steps
 record Steps (z : Float) : Type 0 where

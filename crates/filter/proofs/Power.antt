@@ -53,6 +53,7 @@ part_half t n =
 
     true_of : (v : Bool) → T v → v ≡ true
     true_of true h = refl
+    true_of false h = elim h [ ]
 
 pub fast_unscaled : (t : Float) → Bound S (150 * 2 ^ 53) t → Unscaled (exp2_reduced (part_of t))
 unfolding exp2_reduced part_of

@@ -5,6 +5,8 @@
 // clear of the edges it settles the route. Elsewhere nothing is found, and the fast path runs as
 // written. How far the two can be from each other is a theorem (proofs/Logarithm.antt,
 // proofs/Power.antt, proofs/Near.antt).
+#![tactic(auto)]
+
 ghost use Rattle.std.specs.Prelude.{◌≡◌, ◌*◌, ◌^◌, ◌<◌, ◌≤◌, true, false, T, pos};
 ghost use Rattle.std.specs.Float.{binary32, fin};
 ghost use Rattle.std.specs.Float.Ieee.{fits, le, lt};
@@ -26,7 +28,7 @@ pub mod plain;
 // What is found of a pair: the fast answer; that the fast path fails its tests, so that the answer is
 // the slow one; that t is at the lower edge, at the upper edge, or so small that the answer is 1; or
 // nothing.
-#[derive(Drop)]
+#[derive(Clone, Copy)]
 pub enum Found {
     Fast(f32),
     Slow,
@@ -56,8 +58,8 @@ fn near_midpoint(t: f64, w: u64) -> Found
 // 29, and at a midpoint these are 2^28; 2^20 + 2^15 is the margin on either side, and 896 * 2^23 what the
 // exponents' fields differ by.
 fn rounded_pattern(t: f64, w: u64) -> Found
-    requires fact_1 { 898 * 2 ^ 52 ≤ w }
-    requires fact_2 { w < 1148 * 2 ^ 52 }
+    requires w_least { 898 * 2 ^ 52 ≤ w }
+    requires w_below { w < 1148 * 2 ^ 52 }
     ensures { result ≡ spec.rounded_pattern t w }
 {
     if (w + 0x1010_8000) % 0x2000_0000 > 0x21_0000 {
@@ -89,9 +91,9 @@ fn clear_of_switches(part: f64, rest: f64) -> bool
 // For t from -124 to 124 that is not tiny, in two steps: the nearest whole number, and the nearest 32nd
 // to what is left.
 fn in_two_steps(t: f64) -> Found
-    requires fact_1 { T (le (fin true 31 (pos 2)) t) }
-    requires fact_2 { T (le t (fin false 31 (pos 2))) }
-    requires fact_3 { spec.is_tiny t ≡ false }
+    requires t_least { T (le (fin true 31 (pos 2)) t) }
+    requires t_most { T (le t (fin false 31 (pos 2))) }
+    requires not_tiny { spec.is_tiny t ≡ false }
     ensures { result ≡ spec.middle_found t }
 {
     let k = round_ties_even_small(t);
@@ -111,9 +113,9 @@ fn in_two_steps(t: f64) -> Found
 // The same in one step, where the nearest 32nd is not halfway between two whole numbers and no switch of
 // the index is near.
 fn middle_found(t: f64) -> Found
-    requires fact_1 { T (le (fin true 31 (pos 2)) t) }
-    requires fact_2 { T (le t (fin false 31 (pos 2))) }
-    requires fact_3 { spec.is_tiny t ≡ false }
+    requires t_least { T (le (fin true 31 (pos 2)) t) }
+    requires t_most { T (le t (fin false 31 (pos 2))) }
+    requires not_tiny { spec.is_tiny t ≡ false }
     ensures { result ≡ spec.middle_found t }
 {
     // 1.5 * 2^47, so that the sum is rounded to a whole number of 32nds, and its pattern ends in them
@@ -189,11 +191,11 @@ fn plain_found(t: f64) -> Found
 
 // What is found of x and y, the f64s of two finite f32s.
 pub fn filtered(x: f64, y: f64) -> Found
-    requires fact_1 { T (fits binary32 x) }
-    requires fact_2 { T (finite x) }
-    requires fact_3 { T (lt minus_one x) }
-    requires fact_4 { T (fits binary32 y) }
-    requires fact_5 { T (finite y) }
+    requires x_fits { T (fits binary32 x) }
+    requires x_finite { T (finite x) }
+    requires x_above { T (lt minus_one x) }
+    requires y_fits { T (fits binary32 y) }
+    requires y_finite { T (finite y) }
     ensures { Right result (compoundf_log2p1_fast x ⊗ y) }
 {
     let l = plain_log2p1(x);

@@ -1,6 +1,8 @@
 // a * b + c as `dd_fmla` has it, to the last bit, and nearly always without Dekker's product. The lo
 // of that product is at most about 2^-52 of it. Where so small a number, with the error of the sum,
 // cannot move the sum of the rounded product and c, that sum is the result; else `dd_fmla` is run.
+#![tactic(auto)]
+
 ghost use Rattle.std.specs.Prelude.{◌≡◌, not, T};
 ghost use Rattle.std.specs.Float.Ieee.{is_nan};
 ghost use Rattle.double_double.specs.DoubleDouble.{dd_fmla};

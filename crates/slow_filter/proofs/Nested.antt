@@ -1,5 +1,5 @@
 -- (a×z + b)×z + c, nested, beside a×z² + (b×z + c): the same but for the roundings, by the laws on sums and products in another order (`regrouped`). Assumes nothing.
-use mathlib.Core.Bool.{Bool, true, ◌&&◌}
+use mathlib.Core.Bool.{Bool, true, ◌&&◌, false}
 use Prim.Native.Nat.{ℕ, ◌+◌}
 use lib.Dec.{T}
 use lib.Ieee.{Float}
@@ -49,3 +49,7 @@ regrouped {K} {Z} {L} {C} {a} {z} {b} {c} p q r s g =
   where
     split : (a b c d : Bool) → T (a && b && c && d) → T a × T b × T c × T d
     split true true true true h = (tt, tt, tt, tt)
+    split false _ _ d h = elim h [ ]
+    split true false _ d h = elim h [ ]
+    split true true false d h = elim h [ ]
+    split true true true false h = elim h [ ]

@@ -31,6 +31,7 @@ use Rattle.slow_filter.proofs.BelowNormal.{below_normal}
 -- ---- the tests, one by one
 pub true_of : (b : Bool) → T b → b ≡ true
 true_of true t = refl
+true_of false t = elim t [ ]
 
 three : (a b c : Bool) → (a && (b && c)) ≡ true → (a ≡ true) × (b ≡ true) × (c ≡ true)
 three true true true e = (e, e, e)

@@ -1,6 +1,8 @@
 // The filter in front of the slow path: where the answer is below the normal f32s or next to 1, and the
 // plain value is further from every midpoint of two f32s, and from every switch of k and of the index,
 // than it can be from the slow path's own, it is the answer. Elsewhere the slow path runs as written.
+#![tactic(auto)]
+
 ghost use Rattle.std.specs.Prelude.{◌≡◌, ◌*◌, ◌^◌, ◌≤◌, ◌<◌, T};
 ghost use Rattle.std.specs.Float.{binary32};
 ghost use Rattle.std.specs.Float.Ieee.{fits, le, lt};
@@ -22,7 +24,7 @@ use slow_path::compoundf_accurate;
 use tables::{compoundf_exp2_t, poly_q2};
 
 // What is found of a value: the f32 that the slow path rounds it to, or nothing.
-#[derive(Drop)]
+#[derive(Clone, Copy)]
 pub enum SlowFound {
     Rounded(f32),
     Unsure,
@@ -31,9 +33,9 @@ pub enum SlowFound {
 // The answer of the plain pattern w, from 1/2 to 2, and its k, from -150 to -127, where no midpoint of
 // two f32s is within 2^25 of the scaled pattern.
 fn rounded_subnormal(w: u64, k: i64) -> SlowFound
-    requires fact_1 { 1022 * 2 ^ 52 ≤ w }
-    requires fact_2 { w < 1024 * 2 ^ 52 }
-    requires fact_3 { spec.BelowNormal k }
+    requires w_least { 1022 * 2 ^ 52 ≤ w }
+    requires w_below { w < 1024 * 2 ^ 52 }
+    requires below_normal { spec.BelowNormal k }
     ensures { result ≡ spec.subnormal_found w k }
 {
     let m = scaled(w, k);
@@ -62,8 +64,8 @@ fn wide_of_switches(part: f64, rest: f64) -> bool
 
 // For t from -149.5 to -128.
 fn subnormal_power(t: f64) -> SlowFound
-    requires fact_1 { T (le t slow_to) }
-    requires fact_2 { T (le slow_from t) }
+    requires t_most { T (le t slow_to) }
+    requires t_least { T (le slow_from t) }
     ensures { result ≡ plain.subnormal_power t }
 {
     let k = round_ties_even_small(t);
@@ -93,8 +95,8 @@ fn near_one_power(z: f64) -> f64
 // digits an f32 drops 29, and at a midpoint these are 2^28; 896 * 2^23 is what the exponents' fields
 // differ by.
 fn rounded_near_one(w: u64) -> SlowFound
-    requires fact_1 { 1022 * 2 ^ 52 ≤ w }
-    requires fact_2 { w < 1024 * 2 ^ 52 }
+    requires w_least { 1022 * 2 ^ 52 ≤ w }
+    requires w_below { w < 1024 * 2 ^ 52 }
     ensures { result ≡ near.rounded_near_one w }
 {
     if (w + 0x1000_0008) % 0x2000_0000 > 0x10 {
@@ -160,11 +162,11 @@ fn plain_slow(x: f64, y: f64) -> SlowFound
 // (1 + x)^y for the route `slow`, as `compoundf_accurate` has it, x and y being the f64s of two finite
 // f32s.
 pub fn slow_answer(x: f64, y: f64) -> f32
-    requires fact_1 { T (fits binary32 x) }
-    requires fact_2 { T (finite x) }
-    requires fact_3 { T (lt minus_one x) }
-    requires fact_4 { T (fits binary32 y) }
-    requires fact_5 { T (finite y) }
+    requires x_fits { T (fits binary32 x) }
+    requires x_finite { T (finite x) }
+    requires x_above { T (lt minus_one x) }
+    requires y_fits { T (fits binary32 y) }
+    requires y_finite { T (finite y) }
     ensures { result ≡ compoundf_accurate x y }
 {
     match plain_slow(x, y) {

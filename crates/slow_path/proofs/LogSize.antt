@@ -1,6 +1,6 @@
 -- How large the accurate logarithm's polynomial and sums are: the polynomial is z times a factor of at most 2 (`poly_size`), on the scale of 1 or on that of z. Numbers are on
 -- the scale of 1, where 2^53 is 1. Assumes nothing.
-use Rattle.std.proofs.Common.{◌≡◌, ℕ, ◌+◌, ◌*◌, ◌^◌, ◌<◌, Bool, true, ◌&&◌, T, refl, subst, arith, lit<}
+use Rattle.std.proofs.Common.{◌≡◌, ℕ, ◌+◌, ◌*◌, ◌^◌, ◌<◌, Bool, true, ◌&&◌, T, refl, subst, arith, lit<, false}
 use lib.Ieee.{Float}
 use Rattle.double_double.specs.declared.DoubleDouble.{DoubleDouble}
 use Rattle.double_double.specs.DoubleDouble.{quick_mult_f64, dd_fmla}
@@ -77,3 +77,8 @@ logs_size {μ} {E} {A} {a} {B} {b} {e} {x} {y} p q r g =
   where
     five : (a b c d e : Bool) → T (a && b && c && d && e) → T a × T b × T c × T d × T e
     five true true true true true h = (tt, tt, tt, tt, tt)
+    five false _ c d _ h = elim h [ ]
+    five true false c d _ h = elim h [ ]
+    five true true false d _ h = elim h [ ]
+    five true true true false _ h = elim h [ ]
+    five true true true true false h = elim h [ ]

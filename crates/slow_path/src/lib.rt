@@ -1,5 +1,7 @@
 // The slow part of the table path, in double-doubles. A translation of `compoundf.rs` of pxfm 0.1.30
 // (NOTICE); names and the order of the operations are the source's.
+#![tactic(auto)]
+
 ghost use Rattle.std.specs.Prelude.{◌≡◌, ◌<◌, T};
 ghost use Rattle.std.specs.Float.{binary32};
 ghost use Rattle.std.specs.Float.Ieee.{fits, lt};
@@ -115,9 +117,9 @@ fn log2_reduced(e: f64, v: DoubleDouble) -> DoubleDouble
 // Near log2(1 + x) for the f64 of an f32 above -1. The source says that the relative error is below
 // 2^-91.123; `higher` does not bear that out, and nothing here rests on it.
 fn compoundf_log2p1_accurate(x: f64) -> DoubleDouble
-    requires fact_1 { T (fits binary32 x) }
-    requires fact_2 { T (finite x) }
-    requires fact_3 { T (lt minus_one x) }
+    requires x_fits { T (fits binary32 x) }
+    requires x_finite { T (finite x) }
+    requires x_above { T (lt minus_one x) }
     ensures { result ≡ spec.compoundf_log2p1_accurate x }
 {
     let v = one_plus(x);
@@ -334,9 +336,9 @@ fn exp2_accurate(t: DoubleDouble) -> f32
 
 // (1 + x)^y for the route `slow`, x and y being the f64s of two f32s.
 pub fn compoundf_accurate(x: f64, y: f64) -> f32
-    requires fact_1 { T (fits binary32 x) }
-    requires fact_2 { T (finite x) }
-    requires fact_3 { T (lt minus_one x) }
+    requires x_fits { T (fits binary32 x) }
+    requires x_finite { T (finite x) }
+    requires x_above { T (lt minus_one x) }
     ensures { result ≡ spec.compoundf_accurate x y }
 {
     if y == 1.0 {

@@ -12,7 +12,7 @@ ghost use Rattle.tables.specs.Rules.{Rules};
 use double_double::DoubleDouble;
 
 // The patterns of a double-double: lo, then hi.
-#[derive(Drop)]
+#[derive(Clone, Copy)]
 struct Bits(u64, u64);
 
 // Entry i of LOG2P1_COMPOUNDF_INV: near 1/t for t from 1/2 + (i + 13)/64 to 1/2 + (i + 14)/64.

@@ -22,8 +22,8 @@ pub fn is_whole(nx: u32, ny: u32) -> bool
 
 // 1 where n is at most the limit, and 0 above it.
 fn at_most(n: u32, limit: u32) -> u32
-    requires fact_1 { n < 2 ^ 31 }
-    requires fact_2 { limit < 2 ^ 31 }
+    requires n_small { n < 2 ^ 31 }
+    requires limit_small { limit < 2 ^ 31 }
     ensures { result ≡ (if nat_le n limit then 1 else 0) }
 {
     1 - std::num::wrapping_sub_u32(limit, n) / 0x8000_0000

@@ -11,4 +11,4 @@ counted n limit r h g f e = go (leb n limit) refl
     go false t = omega (arith, leb-false n limit t, h, g, f, e) ∙ second (leb n limit) 1 0 t
 
 pub returns : goal.returns
-returns c = counted _ _ _ c.requires.fact_1 c.requires.fact_2 (search rules) c.wrapping_sub_u32.ensures
+returns c = counted _ _ _ c.requires.n_small c.requires.limit_small (search rules) c.wrapping_sub_u32.ensures.value

@@ -48,7 +48,7 @@ pub overflow_mul-chosen : goal.overflow_mul-chosen
 overflow_mul-chosen c = record { fits = no_more _ _ (search rules) }
 
 pub float_from_bits-result : goal.float_from_bits-result
-float_from_bits-result c = number _ (passes _ c.well_formed.0.1) _ _ _ c.wrapping_sub_u64-more.ensures c.wrapping_add_u64.ensures c.requires
+float_from_bits-result c = number _ (passes _ c.well_formed.0.1) _ _ _ c.wrapping_sub_u64-more.ensures.value c.wrapping_add_u64.ensures.value c.requires
 
 pub returns : goal.returns
-returns c = is _ (passes _ c.well_formed.0.1) _ _ _ c.wrapping_sub_u64-more.ensures c.wrapping_add_u64.ensures
+returns c = is _ (passes _ c.well_formed.0.1) _ _ _ c.wrapping_sub_u64-more.ensures.value c.wrapping_add_u64.ensures.value

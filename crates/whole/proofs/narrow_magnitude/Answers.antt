@@ -57,10 +57,10 @@ pub float_to_bits-sum : goal.float_to_bits-sum
 float_to_bits-sum c = sum_number c.args.m c.requires
 
 pub returns-then-m-lt4039728865751334912 : goal.returns-then-m-lt4039728865751334912
-returns-then-m-lt4039728865751334912 c = low_is c.args.m _ c.if-m-lt4039728865751334912.true (search rules) c.wrapping_sub_u64-low.ensures
+returns-then-m-lt4039728865751334912 c = low_is c.args.m _ c.if-m-lt4039728865751334912.true (search rules) c.wrapping_sub_u64-low.ensures.value
 
 pub returns-then-high-lt2139095040 : goal.returns-then-high-lt2139095040
-returns-then-high-lt2139095040 c = inside c.args.m _ c.requires c.if-m-lt4039728865751334912.false (search rules) c.wrapping_sub_u64-high.ensures c.if-high-lt2139095040.true
+returns-then-high-lt2139095040 c = inside c.args.m _ c.requires c.if-m-lt4039728865751334912.false (search rules) c.wrapping_sub_u64-high.ensures.value c.if-high-lt2139095040.true
 
 pub returns : goal.returns
-returns c = outside c.args.m _ c.requires c.if-m-lt4039728865751334912.false (search rules) c.wrapping_sub_u64-high.ensures c.if-high-lt2139095040.false
+returns c = outside c.args.m _ c.requires c.if-m-lt4039728865751334912.false (search rules) c.wrapping_sub_u64-high.ensures.value c.if-high-lt2139095040.false

@@ -66,7 +66,7 @@ module _ (c : Start) where
 -- what was multiplied out, and what is narrowed
 module _ (c : After-squarings-acc) where
   abbrev start : Start
-  start = c.before.before.before
+  start = c.before.before.before.before
 
   abbrev acc : Float
   acc = c.squarings-acc.result
@@ -85,13 +85,13 @@ module _ (c : After-squarings-acc) where
   acc_number = rw power_is (power_number (exponent (x start) (y start)) (x start ⊕ Special.one) (sum_number start))
 
   quotient_is : factor (1 - below) acc ⊘ factor below acc ≡ cond (lt (y start) Special.zero) (Special.one ⊘ acc) acc
-  quotient_is = quotient acc (lt (y start) Special.zero) below acc_fits (sign_of_pattern (x start) (y start) (y_fits start) start.pre)
+  quotient_is = quotient acc (lt (y start) Special.zero) below acc_fits (sign_of_pattern (x start) (y start) (y_fits start) start.requires)
 
   narrowable : (p q : Float) → p ≡ factor (1 - below) acc → q ≡ factor below acc → T (not (is_nan (p ⊘ q)))
   narrowable p q d e = rw (ap₂ ◌⊘◌ d e ∙ quotient_is) (quotient_number acc (lt (y start) Special.zero) acc_number)
 
   answer : (p q : Float) → p ≡ factor (1 - below) acc → q ≡ factor below acc → narrowed (p ⊘ q) ≡ spec.whole (x start) (y start)
-  answer p q d e = ap narrowed (ap₂ ◌⊘◌ d e ∙ quotient_is) ∙ power_way (x start) (y start) acc start.pre power_is
+  answer p q d e = ap narrowed (ap₂ ◌⊘◌ d e ∙ quotient_is) ∙ power_way (x start) (y start) acc start.requires power_is
 
 pub float_to_bits-tiny : goal.float_to_bits-tiny
 unfolding of_bits

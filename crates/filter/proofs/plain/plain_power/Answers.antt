@@ -1,0 +1,6 @@
+-- `plain_power` meets its contract, operation by operation. Assumes nothing.
+use Rattle.std.proofs.Common.{rules}
+use Rattle.filter.proofs.plain.plain_power.Goals as goal
+
+pub returns : goal.returns
+returns c = cc
