@@ -1,13 +1,12 @@
 -- `split`, from above, where nothing overflows: hi is within 2^-25 of a, relatively, lo at most 2^-25 of a, and their sum within 2^-78 of it (`split_near`). Assumes
 -- nothing.
 use mathlib.Core.Path.{◌≡◌, refl, sym, subst}
-use Prim.Native.Nat.{ℕ, zero, suc, ◌+◌, ◌-◌, ◌*◌, ◌/◌, ◌^◌, ◌≤◌, ◌<◌}
+use Prim.Native.Nat.{ℕ, zero, suc, ◌+◌, ◌*◌, ◌/◌, ◌^◌, ◌≤◌, ◌<◌}
 use native.Mathlib.Nat.{le_trans, le_of_eq, le_of_mul-le-mul_right, mul-le-mul_right}
 use native.Mathlib.Omega.{arith}
 use lib.Ieee.{Float, fits}
 use Rattle.floats.specs.Operations.{◌⊕◌, ◌⊖◌, ◌⊗◌}
 use Rattle.double_double.specs.DoubleDouble.{splitter, split}
-use Rattle.floats.proofs.Laws.Sums.{under}
 use Rattle.bounds.proofs.Values.{per_one, per_one_pos, plus, less, mag, Number}
 use Rattle.bounds.proofs.Operation.{limit, Small, add_near, sub_near, mul_near}
 use Rattle.bounds.proofs.Sums.{past, close_mag, difference_small}

@@ -1,6 +1,6 @@
 -- Where the fast path reads its tables, and the power of two that is taken out or put in: each index is inside its table, and each power is one
 -- that an i64 holds, and its cast is defined. Assumes nothing.
-use Rattle.std.proofs.Common.{◌≡◌, ℕ, zero, suc, ◌+◌, ◌-◌, ◌*◌, ◌/◌, ◌%◌, ◌^◌, ◌<◌, ◌≤◌, min, Bool, true, false, cond, not, T, eqb, ltb, leb, ℤ, pos, negsuc, neg_ℤ, sym, ap, ◌∙◌, subst, le_trans, le_of_eq, le_of_lt, mul-le-mul_right, zero-lt-suc, mul-pos, mul-one, not-le_of_lt, arith, lit<, lit≤, eqb→eq, ltb→lt, leb→le, w64, to_z, of_z}
+use Rattle.std.proofs.Common.{◌≡◌, ℕ, zero, suc, ◌+◌, ◌-◌, ◌*◌, ◌/◌, ◌%◌, ◌^◌, ◌<◌, ◌≤◌, min, Bool, true, false, cond, not, T, eqb, leb, ℤ, pos, negsuc, neg_ℤ, sym, ap, ◌∙◌, subst, le_trans, le_of_eq, le_of_lt, mul-le-mul_right, zero-lt-suc, mul-pos, mul-one, not-le_of_lt, arith, lit<, lit≤, eqb→eq, ltb→lt, leb→le, w64, to_z, of_z}
 use native.Mathlib.Nat.{min-le_left}
 use lib.Dec.{nleb→lt}
 use lib.Ieee.{Float, nan, inf, fin, binary64, up, down, add, sub, le, lt, to_signed, in_signed, is_nan, fits, minus, nan_bits, to_bits, of_bits}

@@ -5,7 +5,7 @@ use lib.Ieee.{Float, nan, inf, fin, binary64, add, le, fits, to_bits, of_bits}
 use lib.Ieee.Fits.{add-fits}
 use lib.Ieee.Scale.{finite}
 use Rattle.floats.specs.Operations.{◌⊕◌, f64}
-use Rattle.floats.proofs.Laws.Order.{clear, pattern_mono}
+use Rattle.floats.proofs.Laws.Order.{pattern_mono}
 use Rattle.floats.proofs.Laws.Sums.{add_mono_left}
 use Rattle.floats.proofs.Laws.Units.{bits_of_sign}
 use Rattle.bounds.proofs.Values.{plus, less, one_side, Number}

@@ -5,7 +5,6 @@ use lib.Ieee.{Float, nan, inf, fin, binary64, up, down, fits, of_bits}
 use lib.Ieee.Bits.{of_bits-fits}
 use lib.Ieee.Exact.{HasValue}
 use Rattle.floats.specs.Operations.{◌⊕◌, ◌⊖◌, f64}
-use Rattle.floats.proofs.Laws.Sums.{under}
 use Rattle.tables.specs.Tables.{entry, compoundf_exp2_t}
 use Rattle.tables.proofs.Entries.{exp2t_rule}
 use Rattle.fast_path.specs.Fast.{power_place, power_index}

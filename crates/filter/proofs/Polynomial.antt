@@ -1,6 +1,6 @@
 -- The polynomials of the power, side by side: where z and z' are 2^-33 from each other, and a little, and at most 1/64 in size, the fast path's is from 7/8 to 9/8, and the plain one is less
 -- than 0.7014 × 2^-33 from it (`poly_beside`). Numbers are on the scale of 1, where 2^53 is 1. Assumes nothing.
-use Rattle.std.proofs.Common.{◌+◌, ◌-◌, ◌*◌, ◌^◌}
+use Rattle.std.proofs.Common.{◌+◌, ◌*◌, ◌^◌}
 use lib.Ieee.{Float}
 use Rattle.tables.specs.Tables.{entry, expf_poly_q}
 use Rattle.fast_path.specs.Fast.{compoundf_expf_poly}

@@ -1,6 +1,6 @@
 -- Times y: the fast path's t = l×y and the plain one differ by 33 / 2^45 of its size at most, a little more than the logarithms do (`times_beside`). Both products are rounded once, and neither is
 -- so small that the rounding counts for more. Assumes nothing.
-use Rattle.std.proofs.Common.{◌≡◌, ℕ, zero, suc, ◌+◌, ◌-◌, ◌*◌, ◌^◌, ◌<◌, ◌≤◌, T, ◌⊎◌, sym, ap, ◌∙◌, inl, inr, le_trans, le_of_eq, le_refl, le_of_lt, mul-le-mul_right, zero-lt-suc, mul_assoc, mul-le-mul, mul-pos, one-mul, mul-zero, zero-mul, mul_right_comm, le_of_mul-le-mul_right, arith, lit≤}
+use Rattle.std.proofs.Common.{◌≡◌, ℕ, zero, suc, ◌+◌, ◌*◌, ◌^◌, ◌<◌, ◌≤◌, T, ◌⊎◌, sym, ap, ◌∙◌, inl, inr, le_trans, le_of_eq, le_refl, le_of_lt, mul-le-mul_right, zero-lt-suc, mul_assoc, mul-le-mul, mul-pos, one-mul, mul-zero, zero-mul, mul_right_comm, le_of_mul-le-mul_right, arith, lit≤}
 use lib.Ieee.{Float, nan, inf, fin, binary32, binary64, up, down, fits}
 use lib.Ieee.Fits.{fits_widens, up_pos, down_pos}
 use lib.Ieee.Scale.{finite}

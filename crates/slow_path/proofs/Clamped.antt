@@ -1,7 +1,7 @@
 -- The index and the power of two of the slow path, which are cut to their ranges: the index is inside its table, and the power is one that an i64
 -- holds, and its cast is defined. Inside the ranges nothing is cut (`index_unclamped`, `k_unclamped`). Assumes nothing.
 use Rattle.std.proofs.Common.{◌≡◌, ℕ, ◌+◌, ◌*◌, ◌^◌, ◌<◌, ◌≤◌, min, Bool, true, false, cond, not, T, ltb, pos, negsuc, sym, refl, subst, ap₂, true≢false, arith, lit≤, nltb→le}
-use lib.Ieee.{Float, nan, inf, fin, binary64, up, down, le, lt, to_signed, is_nan, fits}
+use lib.Ieee.{Float, nan, inf, fin, binary64, up, down, lt, to_signed, is_nan, fits}
 use Rattle.floats.specs.Narrowing.{nearest_whole}
 use Rattle.floats.proofs.Laws.Sums.{SizeAtMost}
 use Rattle.fast_path.specs.Scaling.{Within}

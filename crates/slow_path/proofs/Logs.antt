@@ -1,7 +1,7 @@
 -- The two logarithms beside each other: wherever the fast one is l, the accurate one is at most 6.5 × |l| in its hi and 2^-39 × |l| in its lo (`Logs`). Three cases:
 -- the exponent e of 1 + x is not 0 (`far_whole`); e is 0 and the inverse is not 1 (`far_part`); e is 0 and the inverse is 1 (`near`), where z is 1 + x less 1 and
 -- both logarithms are on the scale of z. Assumes nothing.
-use Rattle.std.proofs.Common.{◌≡◌, ℕ, zero, ◌+◌, ◌-◌, ◌*◌, ◌/◌, ◌^◌, ◌<◌, ◌≤◌, sym, ap, ◌∙◌, subst, le_trans, le_of_eq, le_refl, mul-le-mul_right, mul_assoc, mul-le-mul, mul-pos, one-mul, arith, lit<, lit≤, pow_pos}
+use Rattle.std.proofs.Common.{◌≡◌, ℕ, ◌+◌, ◌-◌, ◌*◌, ◌/◌, ◌^◌, ◌<◌, ◌≤◌, sym, ap, ◌∙◌, subst, le_trans, le_of_eq, le_refl, mul-le-mul_right, mul_assoc, mul-le-mul, mul-pos, one-mul, arith, lit<, lit≤, pow_pos}
 use lib.Ieee.{Float}
 use Rattle.floats.specs.Operations.{◌⊕◌}
 use Rattle.double_double.specs.declared.DoubleDouble.{DoubleDouble}

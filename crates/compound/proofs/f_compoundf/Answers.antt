@@ -1,5 +1,4 @@
 -- `f_compoundf` meets its contract: its two tests are the definition's, and past the first x is finite and above -1. Assumes nothing.
-use borrow.Author.Rules.{rules}
 use mathlib.Core.Path.{◌≡◌, refl, sym, ◌∙◌, ap, subst}
 use mathlib.Core.Bool.{Bool, true, false, not, cond}
 use Prim.Native.Nat.{ℕ}

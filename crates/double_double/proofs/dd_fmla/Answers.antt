@@ -1,5 +1,4 @@
 -- `dd_fmla` meets its contract: the exact product, the full add, and the sum of the two parts. Assumes nothing.
-use borrow.Author.Rules.{rules}
 use Rattle.double_double.specs.DoubleDouble.{dd_fmla}
 use Rattle.double_double.proofs.dd_fmla.Goals as goal
 

@@ -1,5 +1,4 @@
 -- `compoundf_expf_poly` meets its contract, operation by operation. Assumes nothing.
-use Rattle.std.proofs.Common.{rules}
 use Rattle.fast_path.specs.Fast.{compoundf_expf_poly}
 use Rattle.fast_path.proofs.compoundf_expf_poly.Goals as goal
 

@@ -1,6 +1,6 @@
 -- `exp2_fast` meets its contract: t is from -150 to 128, so that the index of the power is below 33 and k fits the exponent's field.
 -- Assumes nothing.
-use Rattle.std.proofs.Common.{◌≡◌, ℕ, true, false, T, ℤ, pos, sym, subst, rules}
+use Rattle.std.proofs.Common.{◌≡◌, ℕ, true, false, T, ℤ, pos, sym, subst}
 use lib.Ieee.{Float, fin, binary64, fits, of_bits, lt, to_signed}
 use denote.Floats.{passes}
 use Rattle.floats.specs.Operations.{◌⊖◌, f64}

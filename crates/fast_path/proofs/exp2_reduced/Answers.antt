@@ -1,5 +1,4 @@
 -- `exp2_reduced` meets its contract, operation by operation. Assumes nothing.
-use Rattle.std.proofs.Common.{rules}
 use Rattle.fast_path.specs.Fast.{exp2_reduced}
 use Rattle.fast_path.proofs.exp2_reduced.Goals as goal
 

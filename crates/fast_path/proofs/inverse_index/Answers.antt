@@ -1,5 +1,5 @@
 -- `inverse_index` meets its contract: what has an index is no NaN. Assumes nothing.
-use Rattle.std.proofs.Common.{refl, rules}
+use Rattle.std.proofs.Common.{refl}
 use Rattle.fast_path.specs.Fast.{inverse_index}
 use Rattle.fast_path.proofs.Index.{inverse_number}
 use Rattle.fast_path.proofs.inverse_index.Goals as goal

@@ -1,5 +1,4 @@
 -- `log2p1_polyeval_1` meets its contract, operation by operation. Assumes nothing.
-use Rattle.std.proofs.Common.{rules}
 use Rattle.fast_path.specs.Fast.{log2p1_polyeval1}
 use Rattle.fast_path.proofs.log2p1_polyeval_1.Goals as goal
 

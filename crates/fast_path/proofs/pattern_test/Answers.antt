@@ -1,5 +1,5 @@
 -- `pattern_test` meets its contract: below the normal f32s the rounding test fails, where the test on the pattern passes it passes too, and otherwise it is run. Assumes nothing.
-use Rattle.std.proofs.Common.{◌∙◌, ap₂, arith, rules, ltb-true, leb-true}
+use Rattle.std.proofs.Common.{◌∙◌, ap₂, arith, ltb-true, leb-true}
 use lib.Ieee.{binary64}
 use Rattle.floats.proofs.Laws.Nan.{number_of_below}
 use Rattle.fast_path.specs.Fast.{rounding_test}

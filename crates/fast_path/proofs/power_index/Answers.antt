@@ -1,5 +1,5 @@
 -- `power_index` meets its contract: what has an index is no NaN. Assumes nothing.
-use Rattle.std.proofs.Common.{refl, rules}
+use Rattle.std.proofs.Common.{refl}
 use Rattle.fast_path.specs.Fast.{power_index}
 use Rattle.fast_path.proofs.Index.{power_number}
 use Rattle.fast_path.proofs.power_index.Goals as goal

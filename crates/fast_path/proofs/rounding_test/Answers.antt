@@ -1,5 +1,5 @@
 -- `rounding_test` meets its contract: its two tests are the definition's. Assumes nothing.
-use Rattle.std.proofs.Common.{◌≡◌, Bool, true, false, cond, sym, ap, ◌∙◌, rules}
+use Rattle.std.proofs.Common.{◌≡◌, Bool, true, false, cond, sym, ap, ◌∙◌}
 use lib.Ieee.{Float, nan_bits, lt, ne}
 use Rattle.floats.specs.Operations.{◌⊕◌, ◌⊖◌, f64}
 use Rattle.floats.specs.Narrowing.{narrowed}

@@ -1,5 +1,5 @@
 -- `clear_of_switches` meets its contract: its tests are the definition's. Assumes nothing.
-use Rattle.std.proofs.Common.{Bool, ◌&&◌, ap, rules}
+use Rattle.std.proofs.Common.{Bool, ◌&&◌, ap}
 use lib.Ieee.{of_bits, nan_bits, neg, le}
 use Rattle.filter.specs.Plain.{part_end, clear_of_switches}
 use Rattle.filter.proofs.clear_of_switches.Goals as goal

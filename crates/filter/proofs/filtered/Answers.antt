@@ -1,5 +1,5 @@
 -- `filtered` meets its contract: the plain logarithm times y is near the fast path's, so it is finite, and what is found of it is right. Assumes nothing.
-use Rattle.std.proofs.Common.{◌≡◌, T, sym, subst, rules}
+use Rattle.std.proofs.Common.{◌≡◌, T, sym, subst}
 use lib.Ieee.{Float, binary32, fits, lt}
 use lib.Ieee.Scale.{finite}
 use Rattle.floats.specs.Operations.{◌⊗◌}

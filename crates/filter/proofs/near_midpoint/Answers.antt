@@ -1,5 +1,4 @@
 -- `near_midpoint` meets its contract: its tests are the definition's, and the sum does not overflow. Assumes nothing.
-use Rattle.std.proofs.Common.{rules}
 use lib.Ieee.{nan_bits}
 use Rattle.floats.proofs.Laws.Tests.{first, second}
 use Rattle.filter.specs.declared.Found.TheVariants.{Slow, Unsure}

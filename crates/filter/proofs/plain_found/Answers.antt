@@ -1,5 +1,5 @@
 -- `plain_found` meets its contract: its tests are the definition's, and a finite t that is not below -124 and not above 124 is between them. Assumes nothing.
-use Rattle.std.proofs.Common.{◌≡◌, true, false, T, pos, sym, ◌∙◌, rules}
+use Rattle.std.proofs.Common.{◌≡◌, true, false, T, pos, sym, ◌∙◌}
 use lib.Ieee.{Float, fin, binary64, fits, of_bits, neg, le, lt}
 use lib.Ieee.Scale.{finite}
 use denote.Floats.{passes}

@@ -1,5 +1,5 @@
 -- `rounded_pattern` meets its contract: the sums do not overflow, and the pattern that is left is a normal f32's. Assumes nothing.
-use Rattle.std.proofs.Common.{◌∙◌, lt_of_le_of_lt, lit<, rules, le-ltb, lt-ltb}
+use Rattle.std.proofs.Common.{◌∙◌, lt_of_le_of_lt, lit<, le-ltb, lt-ltb}
 use Rattle.floats.proofs.Laws.Tests.{first, second}
 use Rattle.filter.specs.Plain.{rounded_pattern}
 use Rattle.filter.proofs.Accepted.{left_small, left_number}

@@ -1,5 +1,4 @@
 -- `fmla` meets its contract: where the tests pass, s is the definition's result, and otherwise `dd_fmla` is run. Assumes nothing.
-use borrow.Author.Rules.{rules}
 use denote.Floats.{passes}
 use mathlib.Core.Path.{◌≡◌, sym, ap₂, ◌∙◌, subst}
 use mathlib.Core.Bool.{Bool, true}

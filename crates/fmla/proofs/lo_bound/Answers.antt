@@ -1,5 +1,4 @@
 -- `lo_bound` meets its contract: the pattern without its sign stands for |h|. Assumes nothing.
-use borrow.Author.Rules.{rules}
 use denote.Floats.{passes}
 use mathlib.Core.Path.{ap}
 use lib.Ieee.{Float, binary64, of_bits, nan_bits}

@@ -1,5 +1,4 @@
 -- `near_one_found` meets its contract: the plain value of a t of at most 2^-16 in size is from 1/2 to 2. Assumes nothing.
-use borrow.Author.Rules.{rules}
 use mathlib.Core.Path.{sym, ap, ◌∙◌, subst}
 use mathlib.Core.Bool.{not}
 use Prim.Native.Nat.{◌-◌, ◌^◌}

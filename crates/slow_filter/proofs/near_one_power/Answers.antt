@@ -1,5 +1,4 @@
 -- `near_one_power` meets its contract, operation by operation. Assumes nothing.
-use borrow.Author.Rules.{rules}
 use Rattle.slow_filter.specs.NearOne.{near_one_power}
 use Rattle.slow_filter.proofs.near_one_power.Goals as goal
 

@@ -1,5 +1,4 @@
 -- `next_to_one` meets its contract: its tests are the definition's. Assumes nothing.
-use borrow.Author.Rules.{rules}
 use lib.Ieee.{of_bits, nan_bits}
 use Rattle.slow_filter.specs.Plain.{next_to_one}
 use Rattle.slow_filter.proofs.next_to_one.Goals as goal

@@ -1,5 +1,4 @@
 -- `plain_log` meets its contract: its test is the definition's. Assumes nothing.
-use borrow.Author.Rules.{rules}
 use mathlib.Core.Path.{◌≡◌, sym, ap, ◌∙◌}
 use mathlib.Core.Bool.{true, false, cond}
 use lib.Ieee.{Float, of_bits, nan_bits, le}

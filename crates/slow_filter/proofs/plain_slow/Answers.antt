@@ -1,5 +1,4 @@
 -- `plain_slow` meets its contract: its calls are the definition's, and where t is in reach it is between the two ends. Assumes nothing.
-use borrow.Author.Rules.{rules}
 use mathlib.Core.Path.{◌≡◌, sym, ◌∙◌, ap}
 use mathlib.Core.Bool.{Bool, true, false}
 use lib.Ieee.{Float}

@@ -1,5 +1,4 @@
 -- `rounded_near_one` meets its contract: the sums do not overflow, and the pattern that is left is a normal f32's. Assumes nothing.
-use borrow.Author.Rules.{rules}
 use borrow.Author.Tests.{lt-ltb, le-ltb}
 use native.Mathlib.Nat.{lt_of_le_of_lt, lt_of_lt_of_le}
 use Prim.Native.Nat.{ℕ, ◌*◌, ◌^◌, ◌<◌}

@@ -1,14 +1,5 @@
 -- `slow_answer` meets its contract: what the plain evaluation finds is the slow path's answer, and where it finds nothing the slow path is run. Assumes nothing.
-use borrow.Author.Rules.{rules}
-use mathlib.Core.Path.{◌≡◌, sym, ◌∙◌}
-use lib.Dec.{T}
-use lib.Ieee.{Float, binary32, fits, lt}
-use lib.Ieee.Scale.{finite}
-use Rattle.special.specs.Special.{minus_one}
-use Rattle.slow_path.specs.Slow.{compoundf_accurate}
-use Rattle.slow_filter.specs.declared.SlowFound.{SlowFound}
-use Rattle.slow_filter.specs.declared.SlowFound.TheVariants.{Rounded}
-use Rattle.slow_filter.specs.Plain.{plain_slow}
+use mathlib.Core.Path.{sym}
 use Rattle.slow_filter.proofs.Settled.{settled}
 use Rattle.slow_filter.proofs.slow_answer.Goals as goal
 

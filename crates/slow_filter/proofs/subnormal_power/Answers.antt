@@ -1,6 +1,5 @@
 -- `subnormal_power` meets its contract: for t from -149.5 to -128 the index is inside the table, k can be cast and is from -150 to -127, and the plain pattern is that of a value from 1/2 to 2. Assumes
 -- nothing.
-use borrow.Author.Rules.{rules}
 use mathlib.Core.Path.{◌≡◌, sym, ◌∙◌, ap, subst}
 use mathlib.Core.Bool.{Bool, true}
 use Prim.Native.Nat.{ℕ, ◌*◌, ◌^◌, ◌≤◌, ◌<◌}

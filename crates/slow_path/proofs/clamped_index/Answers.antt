@@ -1,5 +1,5 @@
 -- `clamped_index` meets its contract. Assumes nothing.
-use Rattle.std.proofs.Common.{◌≡◌, ℕ, ◌-◌, ◌/◌, ◌≤◌, min, ap, ◌∙◌, le_of_lt, arith, rules}
+use Rattle.std.proofs.Common.{◌≡◌, ℕ, ◌-◌, ◌/◌, ◌≤◌, min, ap, ◌∙◌, le_of_lt, arith}
 use lib.Ieee.{Float, binary64, to_bits}
 use Rattle.floats.specs.Operations.{◌⊕◌, f64}
 use Rattle.floats.proofs.Laws.Place.{min_left, min_right}

@@ -1,5 +1,5 @@
 -- `compoundf_accurate` meets its contract: its test is the definition's, and x narrows to itself. Assumes nothing.
-use Rattle.std.proofs.Common.{◌≡◌, true, false, T, ap, ◌∙◌, rules}
+use Rattle.std.proofs.Common.{◌≡◌, true, false, T, ap, ◌∙◌}
 use lib.Ieee.{Float, binary32, fits, add, eq, of_bits}
 use Rattle.floats.specs.Narrowing.{narrowed}
 use Rattle.floats.proofs.Laws.Narrow.{narrowed_same}

@@ -1,5 +1,4 @@
 -- `compoundf_exp2_poly2` meets its contract, operation by operation. Assumes nothing.
-use Rattle.std.proofs.Common.{rules}
 use Rattle.slow_path.specs.Slow.{compoundf_exp2_poly2}
 use Rattle.slow_path.proofs.compoundf_exp2_poly2.Goals as goal
 

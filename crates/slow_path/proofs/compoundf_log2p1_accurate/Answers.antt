@@ -1,6 +1,6 @@
 -- `compoundf_log2p1_accurate` meets its contract: 1 + x is from 2^-24 to 2^128, so that the scale and the inverse have their entries.
 -- Assumes nothing.
-use Rattle.std.proofs.Common.{◌≡◌, ℕ, ◌+◌, ◌-◌, ◌*◌, ◌/◌, ◌^◌, ◌<◌, ◌≤◌, T, sym, ap, ◌∙◌, subst, lt_trans, arith, lit<, Fits-le, Fits-lit, rules}
+use Rattle.std.proofs.Common.{◌≡◌, ℕ, ◌+◌, ◌-◌, ◌*◌, ◌/◌, ◌^◌, ◌<◌, ◌≤◌, T, sym, ap, ◌∙◌, subst, lt_trans, arith, lit<, Fits-le, Fits-lit}
 use lib.Ieee.{Float, binary32, binary64, fits, to_bits, of_int, lt}
 use lib.Ieee.Scale.{finite}
 use Rattle.floats.specs.Operations.{◌⊗◌}

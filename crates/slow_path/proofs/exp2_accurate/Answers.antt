@@ -1,5 +1,5 @@
 -- `exp2_accurate` meets its contract: its test is the definition's. Assumes nothing.
-use Rattle.std.proofs.Common.{◌≡◌, Bool, true, false, cond, sym, ap, ◌∙◌, subst, rules}
+use Rattle.std.proofs.Common.{◌≡◌, Bool, true, false, cond, sym, ap, ◌∙◌, subst}
 use lib.Ieee.{Float, of_bits}
 use denote.Floats.{passes}
 use Rattle.floats.specs.Operations.{◌⊕◌, ◌⊗◌, f64}

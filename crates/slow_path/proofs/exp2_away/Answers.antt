@@ -1,5 +1,5 @@
 -- `exp2_away` meets its contract: its calls are the definition's, and the index and k are cut to their ranges. Assumes nothing.
-use Rattle.std.proofs.Common.{◌≡◌, ℕ, ◌<◌, Bool, ℤ, sym, subst, rules}
+use Rattle.std.proofs.Common.{◌≡◌, ℕ, ◌<◌, Bool, ℤ, sym, subst}
 use lib.Ieee.{Float}
 use Rattle.floats.specs.Operations.{◌⊖◌}
 use Rattle.double_double.specs.declared.DoubleDouble.{DoubleDouble}

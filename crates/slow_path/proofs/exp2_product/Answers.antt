@@ -1,5 +1,5 @@
 -- `exp2_product` meets its contract, operation by operation. Assumes nothing.
-use Rattle.std.proofs.Common.{not-le_of_lt, rules}
+use Rattle.std.proofs.Common.{not-le_of_lt}
 use Rattle.slow_path.specs.Slow.{exp2_product}
 use Rattle.slow_path.proofs.exp2_product.Goals as goal
 

@@ -1,9 +1,8 @@
 -- `higher` meets its contract: each turn of the loop forgets the ones before. Assumes nothing.
-use Rattle.std.proofs.Common.{◌≡◌, ℕ, ◌+◌, ◌-◌, ◌<◌, ◌≤◌, sym, refl, ap, ◌∙◌, add-one-le, arith, Fits-le, Fits-lit, rules, falls}
+use Rattle.std.proofs.Common.{◌≡◌, ℕ, ◌+◌, ◌-◌, ◌<◌, ◌≤◌, ap, ◌∙◌, arith}
 use lib.Ieee.{Float}
 use Rattle.double_double.specs.DoubleDouble.{dd_fmla}
 use Rattle.tables.specs.Tables.{entry, log2p1_log2_poly}
-use Rattle.slow_path.specs.Slow.{dropping_h, higher}
 use Rattle.slow_path.proofs.higher.Given as goal
 
 -- after a turn h is that turn's own

@@ -1,5 +1,4 @@
 -- `highest_exp2` meets its contract, operation by operation. Assumes nothing.
-use Rattle.std.proofs.Common.{rules}
 use Rattle.slow_path.specs.Slow.{highest_exp2}
 use Rattle.slow_path.proofs.highest_exp2.Goals as goal
 

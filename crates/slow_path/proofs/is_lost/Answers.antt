@@ -1,5 +1,5 @@
 -- `is_lost` meets its contract: its tests are the definition's. Assumes nothing.
-use Rattle.std.proofs.Common.{◌≡◌, ℕ, ◌%◌, ◌^◌, Bool, true, false, ◌&&◌, eqb, sym, refl, ap, ◌∙◌, rules, eq-eqb, ne_eqb}
+use Rattle.std.proofs.Common.{◌≡◌, ℕ, ◌%◌, ◌^◌, Bool, true, false, ◌&&◌, eqb, sym, refl, ap, ◌∙◌, eq-eqb, ne_eqb}
 use lib.Ieee.{Float, eq, ne, of_bits}
 use Rattle.floats.specs.Operations.{f64}
 use Rattle.double_double.specs.declared.DoubleDouble.{DoubleDouble}

@@ -1,5 +1,5 @@
 -- `is_near_one` meets its contract: its tests are the definition's. Assumes nothing.
-use Rattle.std.proofs.Common.{◌≡◌, Bool, true, false, ◌&&◌, sym, ap, ◌∙◌, rules}
+use Rattle.std.proofs.Common.{◌≡◌, Bool, true, false, ◌&&◌, sym, ap, ◌∙◌}
 use lib.Ieee.{Float, le, eq, of_bits, nan_bits}
 use Rattle.floats.specs.Operations.{f64}
 use Rattle.floats.specs.OnBits.{absolute}

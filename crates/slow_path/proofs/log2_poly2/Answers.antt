@@ -1,5 +1,4 @@
 -- `log2_poly2` meets its contract, operation by operation. Assumes nothing.
-use Rattle.std.proofs.Common.{rules}
 use Rattle.slow_path.specs.Slow.{log2_poly2}
 use Rattle.slow_path.proofs.log2_poly2.Goals as goal
 

@@ -1,5 +1,5 @@
 -- `log2_reduced` meets its contract, operation by operation; the index is below 46. Assumes nothing.
-use Rattle.std.proofs.Common.{ℕ, ◌<◌, sym, ap, ◌∙◌, subst, not-le_of_lt, rules}
+use Rattle.std.proofs.Common.{ℕ, ◌<◌, sym, ap, ◌∙◌, subst, not-le_of_lt}
 use Rattle.tables.specs.Tables.{entry, log2p1_compoundf_inv}
 use Rattle.slow_path.specs.Slow.{times_inverse, log2_reduced}
 use Rattle.slow_path.proofs.log2_reduced.Goals as goal

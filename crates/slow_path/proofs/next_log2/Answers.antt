@@ -1,5 +1,4 @@
 -- `next_log2` meets its contract, operation by operation. Assumes nothing.
-use Rattle.std.proofs.Common.{rules}
 use Rattle.slow_path.specs.Slow.{next_log2}
 use Rattle.slow_path.proofs.next_log2.Goals as goal
 

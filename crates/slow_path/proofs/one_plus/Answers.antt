@@ -1,5 +1,5 @@
 -- `one_plus` meets its contract: its tests are the definition's. Assumes nothing.
-use Rattle.std.proofs.Common.{◌≡◌, Bool, true, false, cond, T, negsuc, sym, ap, ◌∙◌, rules}
+use Rattle.std.proofs.Common.{◌≡◌, Bool, true, false, cond, T, negsuc, sym, ap, ◌∙◌}
 use lib.Ieee.{Float, fin, binary32, fits, le, of_bits, nan_bits}
 use Rattle.floats.specs.Narrowing.{narrowed}
 use Rattle.floats.specs.OnBits.{absolute}

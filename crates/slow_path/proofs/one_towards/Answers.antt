@@ -1,5 +1,5 @@
 -- `one_towards` meets its contract: its test is the definition's. Assumes nothing.
-use Rattle.std.proofs.Common.{◌≡◌, ℕ, ◌+◌, ◌-◌, ◌%◌, ◌^◌, true, false, ap, ◌∙◌, rules}
+use Rattle.std.proofs.Common.{◌≡◌, ℕ, ◌+◌, ◌-◌, ◌%◌, ◌^◌, true, false, ap, ◌∙◌}
 use lib.Ieee.{Float, lt, of_bits}
 use Rattle.special.specs.Special.{zero}
 use Rattle.slow_path.specs.Slow.{one_towards}

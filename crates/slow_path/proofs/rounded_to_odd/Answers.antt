@@ -1,5 +1,5 @@
 -- `rounded_to_odd` meets its contract: its test is the definition's. Assumes nothing.
-use Rattle.std.proofs.Common.{◌≡◌, ℕ, Bool, true, false, cond, sym, ap, ◌∙◌, rules}
+use Rattle.std.proofs.Common.{◌≡◌, ℕ, Bool, true, false, cond, sym, ap, ◌∙◌}
 use lib.Ieee.{binary64, to_bits}
 use Rattle.floats.specs.Operations.{◌⊕◌}
 use Rattle.double_double.specs.declared.DoubleDouble.{DoubleDouble}

@@ -1,5 +1,5 @@
 -- `scaled_to_f32` meets its contract: its calls are the definition's. Assumes nothing.
-use Rattle.std.proofs.Common.{◌≡◌, ℕ, Bool, ℤ, rules}
+use Rattle.std.proofs.Common.{◌≡◌, ℕ, Bool, ℤ}
 use lib.Ieee.{Float}
 use Rattle.floats.specs.Operations.{f64}
 use Rattle.floats.specs.Narrowing.{narrowed}

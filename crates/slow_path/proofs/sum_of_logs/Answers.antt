@@ -1,5 +1,4 @@
 -- `sum_of_logs` meets its contract, operation by operation. Assumes nothing.
-use Rattle.std.proofs.Common.{rules}
 use Rattle.slow_path.specs.Slow.{sum_of_logs}
 use Rattle.slow_path.proofs.sum_of_logs.Goals as goal
 

@@ -1,5 +1,5 @@
 -- `test_pattern` meets its contract: its test is the definition's. Assumes nothing.
-use Rattle.std.proofs.Common.{◌≡◌, ℕ, ◌+◌, ◌%◌, ◌^◌, Bool, true, false, cond, leb, ℤ, sym, ap, ◌∙◌, rules, le-leb}
+use Rattle.std.proofs.Common.{◌≡◌, ℕ, ◌+◌, ◌%◌, ◌^◌, Bool, true, false, cond, leb, ℤ, sym, ap, ◌∙◌, le-leb}
 use borrow.Author.Tests.{lt-leb}
 use lib.Ieee.{Float, binary64, to_bits}
 use Rattle.floats.specs.Operations.{◌⊕◌}

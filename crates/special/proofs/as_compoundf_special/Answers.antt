@@ -5,7 +5,6 @@ use Prim.Native.Nat.{ℕ, ◌+◌, ◌*◌, ◌/◌, ◌%◌, ◌^◌, ◌≤◌
 use native.Mathlib.Omega.{arith}
 use lib.Ieee.{binary32, of_bits, div, is_nan, lt, le, eq}
 use mir.Facts.{Fits-le, Fits-lit}
-use Rattle.floats.proofs.Laws.Arms.{only}
 use Rattle.special.specs.Special.{is_zero, from_minus_one_to_zero, special_table, first_that_fits, special}
 use Rattle.special.specs.Rank.{rank}
 use Rattle.special.proofs.Rule.{typical_x, typical_y}

@@ -1,7 +1,7 @@
 -- `compoundf_exp2_t_bits` meets its contract: each arm is the entry of its number, by computing, and the last is never taken. Assumes nothing.
 use Rattle.std.proofs.Common.{arith}
 use Rattle.tables.specs.Tables.{compoundf_exp2_t}
-use Rattle.floats.proofs.Laws.Arms.{at, never}
+use Rattle.floats.proofs.Laws.Arms.{at}
 use Rattle.tables.proofs.compoundf_exp2_t_bits.Goals as goal
 
 pub returns-in-0 : goal.returns-in-0

@@ -1,5 +1,4 @@
 -- `compoundf_exp2_u` meets its contract: no half of an entry is a NaN's pattern, and the double-double is that of the entry. Assumes nothing.
-use borrow.Author.Rules.{rules}
 use mathlib.Core.Path.{refl, ap}
 use Prim.Native.Nat.{ℕ}
 use lib.Ieee.{nan_bits}

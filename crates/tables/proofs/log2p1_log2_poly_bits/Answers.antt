@@ -1,7 +1,7 @@
 -- `log2p1_log2_poly_bits` meets its contract: each arm is the entry of its number, by computing, and the last is never taken. Assumes nothing.
 use Rattle.std.proofs.Common.{arith}
 use Rattle.tables.specs.Tables.{log2p1_log2_poly}
-use Rattle.floats.proofs.Laws.Arms.{at, never}
+use Rattle.floats.proofs.Laws.Arms.{at}
 use Rattle.tables.proofs.log2p1_log2_poly_bits.Goals as goal
 
 pub returns-in-0 : goal.returns-in-0

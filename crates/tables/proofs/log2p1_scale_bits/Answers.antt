@@ -1,5 +1,4 @@
 -- `log2p1_scale_bits` meets its contract: the table has its rule. Assumes nothing.
-use borrow.Author.Rules.{rules}
 use mathlib.Core.Path.{sym}
 use Rattle.tables.proofs.Entries.{scale_pattern}
 use Rattle.tables.proofs.log2p1_scale_bits.Goals as goal

@@ -1,5 +1,4 @@
 -- `poly_q` meets its contract: no entry is a NaN's pattern, and the f64 is that of the entry. Assumes nothing.
-use borrow.Author.Rules.{rules}
 use mathlib.Core.Path.{ap}
 use lib.Ieee.{nan_bits}
 use Rattle.floats.specs.Operations.{f64}

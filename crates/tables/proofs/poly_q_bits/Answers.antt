@@ -1,7 +1,7 @@
 -- `poly_q_bits` meets its contract: each arm is the entry of its number, by computing, and the last is never taken. Assumes nothing.
 use Rattle.std.proofs.Common.{arith}
 use Rattle.tables.specs.Tables.{expf_poly_q}
-use Rattle.floats.proofs.Laws.Arms.{at, never}
+use Rattle.floats.proofs.Laws.Arms.{at}
 use Rattle.tables.proofs.poly_q_bits.Goals as goal
 
 pub returns-in-0 : goal.returns-in-0

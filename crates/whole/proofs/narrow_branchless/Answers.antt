@@ -1,5 +1,5 @@
 -- `narrow_branchless` meets its contract: the magnitude is narrowed by its pattern, and the sign's bit is put back. Assumes nothing.
-use Rattle.std.proofs.Common.{◌≡◌, ℕ, ◌+◌, ◌^◌, ◌<◌, not, T, sym, ap, ◌∙◌, subst, arith, rules}
+use Rattle.std.proofs.Common.{◌≡◌, ℕ, ◌+◌, ◌^◌, ◌<◌, not, T, sym, ap, ◌∙◌, subst, arith}
 use lib.Ieee.{Float, binary32, binary64, fits, nan_bits, to_bits, of_bits}
 use denote.Floats.{passes}
 use Rattle.floats.specs.Narrowing.{narrowed}

@@ -1,6 +1,6 @@
 -- `squarings` meets its contract. The loop's invariant: with the turns that are left, the factors still to come lead to the power. Assumes nothing.
-use Rattle.std.proofs.Common.{◌≡◌, ℕ, suc, ◌+◌, ◌-◌, ◌/◌, ◌%◌, ◌≤◌, Bool, true, false, cond, not, T, eqb, sym, ap, ◌∙◌, ap₂, zero-add, arith}
-use lib.Ieee.{Float, binary64, fits, is_nan}
+use Rattle.std.proofs.Common.{◌≡◌, ℕ, suc, ◌+◌, ◌/◌, ◌%◌, Bool, true, false, cond, T, eqb, sym, ap, ◌∙◌, ap₂, zero-add, arith}
+use lib.Ieee.{Float, binary64, fits}
 use denote.Floats.{passes}
 use Rattle.floats.specs.Operations.{◌⊗◌}
 use Rattle.floats.proofs.Laws.Powers.{square_number}

@@ -1,5 +1,5 @@
 -- `whole` meets its contract, operation by operation. Assumes nothing.
-use Rattle.std.proofs.Common.{◌≡◌, ℕ, ◌-◌, ◌*◌, ◌/◌, ◌%◌, ◌^◌, ◌<◌, ◌≤◌, Bool, true, false, cond, not, ◌&&◌, T, leb, pos, ap, ◌∙◌, ap₂, arith, rules}
+use Rattle.std.proofs.Common.{◌≡◌, ℕ, ◌-◌, ◌*◌, ◌/◌, ◌%◌, ◌^◌, ◌<◌, ◌≤◌, Bool, true, false, cond, not, ◌&&◌, T, leb, pos, ap, ◌∙◌, ap₂, arith}
 use lib.Ieee.{Float, binary32, binary64, lt, to_unsigned, in_unsigned, fits, is_nan, to_bits, of_bits}
 use lib.Ieee.Casts.{to_unsigned-lt}
 use lib.Ieee.Bits.{to_bits-lt}

@@ -1,5 +1,4 @@
 -- `as_written` meets its contract: its calls are the definition's. Assumes nothing.
-use borrow.Author.Rules.{rules}
 use mathlib.Core.Path.{◌≡◌}
 use lib.Ieee.{Float}
 use Rattle.floats.specs.Operations.{◌⊗◌}

@@ -1,5 +1,4 @@
 -- `decided` meets its contract: each arm is the definition's case. Assumes nothing.
-use borrow.Author.Rules.{rules}
 use mathlib.Core.Path.{◌≡◌, sym, ◌∙◌, ap}
 use lib.Ieee.{Float}
 use Rattle.floats.specs.Narrowing.{narrowed}

@@ -1,5 +1,4 @@
 -- `from_logarithm` meets its contract: its tests are the definition's, and between -150 and 128 the powers have their entries. Assumes nothing.
-use borrow.Author.Rules.{rules}
 use mathlib.Core.Path.{◌≡◌, refl, sym, ◌∙◌, subst}
 use mathlib.Core.Bool.{true, false, not, ◌&&◌, ◌||◌, true≢false}
 use Prim.Native.Nat.{ℕ, ◌+◌, ◌*◌, ◌%◌, ◌^◌, ◌≤◌, ◌<◌}
@@ -12,7 +11,6 @@ use lib.Ieee.Fits.{down_pos}
 use denote.Floats.{passes}
 use Rattle.floats.proofs.Laws.Compare.{Order, less, same, more, order, or_true}
 use Rattle.compound.specs.Answer.{outcome}
-use Rattle.special.specs.Special as Special
 use Rattle.compound.proofs.Chosen.{known}
 use Rattle.compound.proofs.route.from_logarithm.Goals as goal
 

@@ -1,12 +1,8 @@
 -- `table_path` meets its contract: what the filter finds is right, and where it finds nothing the source's way is gone. Assumes nothing.
 use Rattle.std.proofs.Common.{refl}
-use borrow.Author.Rules.{rules}
 use mathlib.Core.Path.{◌≡◌, sym, ◌∙◌, ap₂, subst}
 use Prim.Native.Nat.{ℕ}
-use lib.Dec.{T}
-use lib.Ieee.{Float, binary32, fits, lt, of_bits, nan_bits}
-use lib.Ieee.Scale.{finite}
-use Rattle.special.specs.Special.{minus_one}
+use lib.Ieee.{Float, binary32, of_bits, nan_bits}
 use Rattle.compound.specs.Answer.{Outcome, outcome}
 use Rattle.compound.specs.Route.{Tabled, table_path}
 use Rattle.compound.proofs.Filtered as by

@@ -1,5 +1,4 @@
 -- `from_exact_mult` meets its contract: the parts of both factors are `split`'s, and the operations on them are the definition's. Assumes nothing.
-use borrow.Author.Rules.{rules}
 use Rattle.double_double.specs.DoubleDouble.{from_exact_mult}
 use Rattle.double_double.proofs.DoubleDouble.from_exact_mult.Goals as goal
 

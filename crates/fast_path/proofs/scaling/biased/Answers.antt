@@ -1,5 +1,5 @@
 -- `biased` meets its contract: the test is the definition's. Assumes nothing.
-use Rattle.std.proofs.Common.{ℕ, ◌+◌, ◌/◌, ◌%◌, ◌^◌, leb, sym, ap, ◌∙◌, add-zero, rules, le-leb}
+use Rattle.std.proofs.Common.{ℕ, ◌+◌, ◌/◌, ◌%◌, ◌^◌, leb, sym, ap, ◌∙◌, add-zero, le-leb}
 use borrow.Author.Tests.{lt-leb}
 use Rattle.fast_path.specs.Scaling.{biased}
 use Rattle.floats.proofs.Laws.Tests.{first, second}

@@ -1,5 +1,5 @@
 -- `exponent` meets its contract: the field is below 2^12, so that the difference fits an i64, and it is the definition's. Assumes nothing.
-use Rattle.std.proofs.Common.{◌≡◌, ℕ, suc, ◌-◌, ◌^◌, ◌<◌, ◌≤◌, Bool, true, false, cond, T, leb, ℤ, pos, negsuc, ◌-ℤ◌, sym, ap, ◌∙◌, subst, lt_of_le_of_lt, le_of_lt, arith, lit<, le→leb, lt→ltb, w64, SFits, to_z, of_z, rules}
+use Rattle.std.proofs.Common.{◌≡◌, ℕ, suc, ◌-◌, ◌^◌, ◌<◌, ◌≤◌, Bool, true, false, cond, T, leb, ℤ, pos, negsuc, ◌-ℤ◌, sym, ap, ◌∙◌, subst, lt_of_le_of_lt, le_of_lt, arith, lit<, le→leb, lt→ltb, w64, SFits, to_z, of_z}
 use lib.Signed.{mag}
 use lib.Ieee.{binary64, of_int, in_float, minus}
 use mir.ValLaws.{to_z-of_z}

@@ -1,6 +1,5 @@
 -- `reduced` meets its contract: the field less e is 1022 or 1023, so that nothing wraps. Assumes nothing.
-use Rattle.std.proofs.Common.{ℕ, ◌+◌, ◌-◌, ◌*◌, ◌<◌, ◌≤◌, sym, ap, ◌∙◌, subst, arith, rules}
-use Rattle.fast_path.specs.Scaling.{biased}
+use Rattle.std.proofs.Common.{ℕ, ◌+◌, ◌-◌, ◌*◌, ◌<◌, ◌≤◌, sym, ap, ◌∙◌, subst, arith}
 use Rattle.fast_path.proofs.Field.{biased_below, biased_away}
 use Rattle.fast_path.proofs.Index.{reduced_pattern}
 use Rattle.fast_path.proofs.scaling.reduced.Goals as goal

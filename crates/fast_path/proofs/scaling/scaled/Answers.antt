@@ -1,5 +1,5 @@
 -- `scaled` meets its contract: k + 4096 is a natural number, and its last twelve digits times 2^52 are added. Assumes nothing.
-use Rattle.std.proofs.Common.{◌≡◌, ◌+◌, ◌*◌, ◌%◌, ◌^◌, T, ℤ, pos, ◌+ℤ◌, nat_abs, sym, ap, ◌∙◌, subst, lt_of_lt_of_le, lit≤, w64, Fits, SFits, to_z, of_z, rules}
+use Rattle.std.proofs.Common.{◌≡◌, ◌+◌, ◌*◌, ◌%◌, ◌^◌, T, ℤ, pos, ◌+ℤ◌, nat_abs, sym, ap, ◌∙◌, subst, lt_of_lt_of_le, lit≤, w64, Fits, SFits, to_z, of_z}
 use lib.Signed.{non_neg}
 use mir.ValLaws.{to_z-of_z}
 use Rattle.fast_path.specs.Scaling.{Within}

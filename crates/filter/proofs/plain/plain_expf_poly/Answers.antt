@@ -1,5 +1,4 @@
 -- `plain_expf_poly` meets its contract, operation by operation. Assumes nothing.
-use Rattle.std.proofs.Common.{rules}
 use Rattle.filter.specs.Plain.{plain_expf_poly}
 use Rattle.filter.proofs.plain.plain_expf_poly.Goals as goal
 

@@ -1,5 +1,4 @@
 -- `plain_factor` meets its contract, operation by operation. Assumes nothing.
-use Rattle.std.proofs.Common.{rules}
 use Rattle.filter.specs.Plain.{plain_factor}
 use Rattle.filter.proofs.plain.plain_factor.Goals as goal
 

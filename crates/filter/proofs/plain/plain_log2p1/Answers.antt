@@ -1,6 +1,6 @@
 -- `plain_log2p1` meets its contract, as `compoundf_log2p1_fast` does: 1 + x is positive, so that without its e it lies between 1/sqrt(2) and sqrt(2), and has an inverse.
 -- Assumes nothing.
-use Rattle.std.proofs.Common.{◌≡◌, ℕ, neg_ℤ, not-le_of_lt, rules}
+use Rattle.std.proofs.Common.{◌≡◌, ℕ, neg_ℤ, not-le_of_lt}
 use lib.Ieee.{Float, binary64, to_bits, of_bits, of_int, neg}
 use denote.Floats.{passes}
 use Rattle.floats.specs.Operations.{◌⊕◌, ◌⊗◌, f64}

@@ -1,5 +1,4 @@
 -- `plain_power` meets its contract, operation by operation. Assumes nothing.
-use Rattle.std.proofs.Common.{rules}
 use Rattle.filter.proofs.plain.plain_power.Goals as goal
 
 pub returns : goal.returns

@@ -1,5 +1,5 @@
 -- `is_integerf` meets its contract by `integer_of_bits`. Assumes nothing.
-use Rattle.std.proofs.Common.{◌+◌, ◌%◌, sym, arith, rules}
+use Rattle.std.proofs.Common.{◌+◌, ◌%◌, sym, arith}
 use lib.Count.{trailing_le}
 use Rattle.floats.proofs.Laws.Integer.{integer_of_bits}
 use Rattle.floats.proofs.common.is_integerf.Goals as goal

@@ -1,5 +1,5 @@
 -- `narrow_magnitude` meets its contract: the two ways are `low_pattern` and `normal_magnitude`. Assumes nothing.
-use Rattle.std.proofs.Common.{ℕ, ◌+◌, ◌-◌, ◌/◌, ◌%◌, sym, ◌∙◌, le_of_lt, arith, rules}
+use Rattle.std.proofs.Common.{ℕ, ◌+◌, ◌-◌, ◌/◌, ◌%◌, sym, ◌∙◌, le_of_lt, arith}
 use lib.Ieee.{binary64, nan_bits}
 use Rattle.floats.proofs.Laws.Nan.{number_of_below}
 use Rattle.floats.proofs.Laws.Place.{min_left, min_right}

@@ -1,5 +1,5 @@
 -- `from_bits_f64` meets its contract. Assumes nothing.
-use Rattle.std.proofs.Common.{sym, rules}
+use Rattle.std.proofs.Common.{sym}
 use lib.Ieee.{binary64, of_bits, div}
 use Rattle.floats.proofs.Laws.Nan.{nan_of_above, number_of_below}
 use Rattle.floats.proofs.patterns.from_bits_f64.Goals as goal

@@ -1,5 +1,5 @@
 -- `to_bits_f32` meets its contract. Assumes nothing.
-use Rattle.std.proofs.Common.{sym, rules}
+use Rattle.std.proofs.Common.{sym}
 use lib.Ieee.{binary32}
 use Rattle.floats.proofs.Laws.Nan.{number_of_same, bits_of_nan}
 use Rattle.floats.proofs.patterns.to_bits_f32.Goals as goal

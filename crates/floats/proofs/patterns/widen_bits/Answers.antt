@@ -1,5 +1,5 @@
 -- `widen_bits` meets its contract: a normal number's pattern is widened as `widened_signed` has it, and any other value by the conversion. Assumes nothing.
-use Rattle.std.proofs.Common.{◌-◌, ◌%◌, ◌∙◌, arith, rules, ltb-true, leb-true}
+use Rattle.std.proofs.Common.{◌-◌, ◌%◌, ◌∙◌, arith, ltb-true, leb-true}
 use lib.Ieee.{binary64}
 use Rattle.floats.proofs.Laws.Nan.{number_of_below}
 use Rattle.floats.proofs.Laws.Widen.{wide, wide_number, widened_signed}

@@ -1,5 +1,5 @@
 -- `round_ties_even` meets its contract: from 2 ^ 52 up x is whole, and below it the sum with 2 ^ 52 rounds and gets the sign of x. Assumes nothing.
-use Rattle.std.proofs.Common.{◌≡◌, ℕ, ◌+◌, ◌-◌, ◌*◌, ◌%◌, ◌^◌, ◌<◌, Bool, not, T, sym, ap, ◌∙◌, subst, arith, rules}
+use Rattle.std.proofs.Common.{◌≡◌, ℕ, ◌+◌, ◌-◌, ◌*◌, ◌%◌, ◌^◌, ◌<◌, Bool, not, T, sym, ap, ◌∙◌, subst, arith}
 use denote.Floats.{passes}
 use lib.Ieee.{Float, binary64, fits, is_nan, nan_bits, to_bits, of_bits}
 use lib.Ieee.Bits.{of_bits-to_bits, to_bits-lt, nan_bits_is}

@@ -1,5 +1,4 @@
 -- `glyph` meets its contract: the branch is the definition's. Assumes nothing.
-use borrow.Author.Rules.{rules}
 use borrow.Author.Tests.{lt-ltb, le-ltb}
 use Rattle.text.specs.Digits.{glyph}
 use Rattle.text.proofs.digits.glyph.Goals as goal

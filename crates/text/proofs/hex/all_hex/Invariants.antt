@@ -1,14 +1,11 @@
 -- `all_hex` meets its contract: what was found of the bytes passed, and the bytes ahead, decide. Assumes nothing.
-use borrow.Author.Rules.{rules}
-use mathlib.Core.Path.{◌≡◌, refl, sym, ◌∙◌}
-use mathlib.Core.Bool.{Bool, ◌&&◌, and_assoc, and-true}
+use mathlib.Core.Path.{◌≡◌}
+use mathlib.Core.Bool.{Bool, ◌&&◌}
 use mathlib.Core.List.{List}
-use Prim.Native.Nat.{ℕ, ◌+◌, ◌-◌, ◌≤◌, ◌<◌}
-use native.Mathlib.Omega.{arith}
-use lib.ListN.{length, get_or, drop}
+use Prim.Native.Nat.{ℕ, ◌-◌, ◌≤◌}
+use lib.ListN.{drop}
 use Rattle.text.specs.Bytes.{all, eight_at}
 use Rattle.text.specs.Digits.{is_hex}
-use Rattle.text.proofs.Part.{ahead, passed}
 use Rattle.text.proofs.hex.all_hex.Given as goal
 
 -- all eight are digits if the first i are, as `hex` says, and those ahead

@@ -1,5 +1,4 @@
 -- `half` meets its contract: the sum is that of the four bytes, each in its place. Assumes nothing.
-use borrow.Author.Rules.{rules}
 use native.Mathlib.Omega.{arith}
 use Prim.Native.Nat.{ℕ, ◌+◌, ◌*◌, ◌<◌}
 use Rattle.text.proofs.Words.{four_bytes}

@@ -1,5 +1,4 @@
 -- `hex_number` meets its contract: each step on the word has room, and they come to the number. Assumes nothing.
-use borrow.Author.Rules.{rules}
 use mathlib.Core.Path.{subst, sym}
 use Prim.Native.Nat.{ℕ, ◌+◌, ◌*◌, ◌/◌, ◌%◌, ◌^◌, ◌≤◌, ◌<◌}
 use native.Mathlib.Omega.{arith}

@@ -1,5 +1,4 @@
 -- `word` meets its contract: four bytes, and four after them. Assumes nothing.
-use borrow.Author.Rules.{rules}
 use Rattle.text.proofs.Words.{eight_bytes}
 use Rattle.text.proofs.hex.word.Goals as goal
 
