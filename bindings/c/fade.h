@@ -1,8 +1,8 @@
 /*
  * Battery fade factors, (1+x)^y in f32, and the reader of batch lines, for C99 and C++11.
  *
- * A thin layer over two static libraries whose functions are proved. `rt staticlib exports` and
- * `rt staticlib batch_exports` write libexports.a and libbatch_exports.a to target/staticlib; a program
+ * A thin layer over two static libraries whose functions are proved. `rt lib` in crates/exports and in
+ * crates/batch_exports writes libexports.a and libbatch_exports.a to the folder out there; a program
  * that includes this header is linked with both, or with the first alone if it does not use the reader.
  * Before a pack is sized on an answer, read docs/ERROR-BUDGET.md. The libraries hold code translated
  * from the Rust crate pxfm 0.1.30 (BSD-3-Clause OR Apache-2.0; NOTICE has both licences). Names that

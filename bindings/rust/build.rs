@@ -1,11 +1,11 @@
 // Links the two static libraries: those in the folder that FADE_LIBS names, or those that
-// `rt staticlib` writes. A relative FADE_LIBS is taken from the folder of this file.
+// `rt lib` writes. A relative FADE_LIBS is taken from the folder of this file.
 
 use std::env;
 use std::path::PathBuf;
 
-// Where `rt staticlib` writes its libraries.
-const BUILT: &str = "../../target/staticlib";
+// Where the crates are; `rt lib` writes the library of one to its folder out.
+const CRATES: &str = "../../crates";
 
 // The libraries: the function, and the reader of batch lines.
 const LIBRARIES: [&str; 2] = ["exports", "batch_exports"];
@@ -31,17 +31,18 @@ fn link() -> Result<(), String> {
         return Err("the libraries are for x86_64 Linux alone, and this is another target".into());
     }
     let named = env::var_os("FADE_LIBS").filter(|name| !name.is_empty());
-    let folder = named.map_or(PathBuf::from(BUILT), PathBuf::from);
     for library in LIBRARIES {
+        let built = || PathBuf::from(CRATES).join(library).join("out");
+        let folder = named.as_ref().map_or_else(built, PathBuf::from);
         let archive = folder.join(format!("lib{library}.a"));
         let name = archive.display();
         println!("cargo::rerun-if-changed={name}");
         if !archive.is_file() {
-            return Err(format!("there is no {name}: run `rt staticlib {library}`, or set FADE_LIBS"));
+            return Err(format!("there is no {name}: run `rt lib` in crates/{library}, or set FADE_LIBS"));
         }
         println!("cargo::rustc-link-lib=static={library}");
+        let whole = folder.canonicalize().map_err(|error| format!("{}: {error}", folder.display()))?;
+        println!("cargo::rustc-link-search=native={}", whole.display());
     }
-    let whole = folder.canonicalize().map_err(|error| format!("{}: {error}", folder.display()))?;
-    println!("cargo::rustc-link-search=native={}", whole.display());
     Ok(())
 }

@@ -1,7 +1,7 @@
 //! Battery fade factors, (1+x)^y in f32, and the reader of batch lines.
 //!
-//! A thin layer over two static libraries whose functions are proved; `rt staticlib exports` and
-//! `rt staticlib batch_exports` build them.
+//! A thin layer over two static libraries whose functions are proved; `rt lib` in `crates/exports`
+//! and in `crates/batch_exports` builds them.
 //! Every function here takes every value of its types. Before a pack is sized on an answer, read
 //! docs/ERROR-BUDGET.md. The libraries hold code translated from the crate pxfm 0.1.30
 //! (BSD-3-Clause OR Apache-2.0; NOTICE has both licences).
