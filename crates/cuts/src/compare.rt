@@ -6,7 +6,7 @@ use crate::expected::part;
 use batch::{Fed, State, Tail, Tallies, Verdict};
 
 // What differs first: nothing; a feed's answer, its output, its state; a close's answer.
-#[derive(Drop)]
+#[derive(Clone, Copy)]
 pub enum Differs {
     Nothing,
     Answer,

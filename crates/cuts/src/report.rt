@@ -1,18 +1,26 @@
 // Counting the checks, and telling of those that were wrong.
 use crate::compare::Differs;
-use libc::STDOUT_FILENO;
 
 // How many wrong checks of a group are told of.
-const TOLD: u32 = 5;
+const TOLD: usize = 5;
 
-// How many checks of feed and of close a group made, how many were wrong, and at which place of the
-// batch it is.
-#[derive(Drop)]
+// A wrong check: its place, how many checks its group made before it, and what differs.
+#[derive(Clone, Copy)]
+pub struct Wrong {
+    place: usize,
+    checks: u64,
+    what: Differs,
+}
+
+// How many checks of feed and of close a group made, how many were wrong, at which place of the batch
+// it is, and the first wrong checks.
+#[derive(Clone, Copy)]
 pub struct Seen {
     pub feeds: u32,
     pub closes: u32,
     pub wrong: u32,
     pub place: usize,
+    told: [Wrong; TOLD],
 }
 
 // No check yet.
@@ -22,6 +30,11 @@ pub(crate) fn none_seen() -> Seen {
         closes: 0,
         wrong: 0,
         place: 0,
+        told: [Wrong {
+            place: 0,
+            checks: 0,
+            what: Differs::Nothing,
+        }; TOLD],
     }
 }
 
@@ -31,32 +44,32 @@ pub(crate) fn more(n: u32) -> u32 {
 }
 
 // Prints a text.
-pub(crate) fn print(text: &[u8]) {
-    io::write_all(STDOUT_FILENO, text);
+pub(crate) fn print(rt: &impl Print, text: &[u8]) {
+    let _ = rt.write_all(text);
 }
 
 // Prints words and a number.
-fn print_number(words: &[u8], n: u64) {
-    print(words);
-    io::print_decimal(STDOUT_FILENO, n);
+fn print_number(rt: &impl Print, words: &[u8], n: u64) {
+    print(rt, words);
+    let _ = rt.print(n);
 }
 
 // What differs, in words.
-fn print_differs(what: Differs) {
+fn print_differs(rt: &impl Print, what: Differs) {
     match what {
         Differs::Nothing => {}
-        Differs::Answer => print(b", feed's answer\n"),
-        Differs::Output => print(b", feed's output\n"),
-        Differs::State => print(b", feed's state\n"),
-        Differs::Closed => print(b", close's answer\n"),
+        Differs::Answer => print(rt, b", feed's answer\n"),
+        Differs::Output => print(rt, b", feed's output\n"),
+        Differs::State => print(rt, b", feed's state\n"),
+        Differs::Closed => print(rt, b", close's answer\n"),
     }
 }
 
-// Tells of a wrong check: its place, how many checks its group made before it, and what differs.
-fn print_wrong(seen: Seen, what: Differs) {
-    print_number(b"wrong: at place ", seen.place as u64);
-    print_number(b", after checks ", seen.feeds as u64 + seen.closes as u64);
-    print_differs(what);
+// Tells of a wrong check.
+fn print_wrong(rt: &impl Print, wrong: Wrong) {
+    print_number(rt, b"wrong: at place ", wrong.place as u64);
+    print_number(rt, b", after checks ", wrong.checks);
+    print_differs(rt, wrong.what);
 }
 
 // Counts what a check found.
@@ -64,10 +77,15 @@ fn note(seen: Seen, what: Differs) -> Seen {
     if let Differs::Nothing = what {
         return seen;
     }
-    if seen.wrong < TOLD {
-        print_wrong(seen, what);
-    }
     let mut next = seen;
+    let at = seen.wrong as usize;
+    if at < TOLD {
+        next.told[at] = Wrong {
+            place: seen.place,
+            checks: seen.feeds as u64 + seen.closes as u64,
+            what,
+        };
+    }
     next.wrong = more(seen.wrong);
     next
 }
@@ -86,11 +104,16 @@ pub(crate) fn note_close(seen: Seen, what: Differs) -> Seen {
     next
 }
 
-// Prints the line of a group.
-pub(crate) fn print_group(name: &[u8], seen: Seen) {
-    print(name);
-    print_number(b": checks of feed ", seen.feeds as u64);
-    print_number(b", of close ", seen.closes as u64);
-    print_number(b", wrong ", seen.wrong as u64);
-    print(b"\n");
+// Tells of the first wrong checks of a group, and prints its line.
+pub(crate) fn print_group(rt: &impl Print, name: &[u8], seen: Seen) {
+    for i in 0..TOLD {
+        if i < seen.wrong as usize {
+            print_wrong(rt, seen.told[i]);
+        }
+    }
+    print(rt, name);
+    print_number(rt, b": checks of feed ", seen.feeds as u64);
+    print_number(rt, b", of close ", seen.closes as u64);
+    print_number(rt, b", wrong ", seen.wrong as u64);
+    print(rt, b"\n");
 }

@@ -2,6 +2,8 @@
 // the answer into one number. It has no `requires`. The functions on numbers are exported by
 // `part_exports`, and the reader of batch lines by `batch_exports`: with one caller of `f_compoundf` in
 // this library, the compiler puts it into `fade_compoundf`.
+#![tactic(auto)]
+
 ghost use Rattle.std.specs.Prelude.{◌≡◌, ◌+◌, ◌*◌, ◌^◌, ◌<◌};
 ghost use Rattle.std.specs.Float.{binary32};
 ghost use Rattle.std.specs.Float.Ieee.{to_bits, of_bits};

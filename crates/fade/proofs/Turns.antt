@@ -6,7 +6,8 @@ use mathlib.Core.Bool.{true, false}
 use mathlib.Core.Logic.{◌⊎◌, inl, inr, ⊎_elim}
 use mathlib.Core.List.{List, [], ◌∷◌, ◌++◌}
 use lib.Dec.{eqb}
-use lib.IntN.{ℤ, pos, negsuc}
+use Rattle.std.specs.Prelude.{Result, Ok, Err}
+use Rattle.std.specs.declared.io.Error.{Error}
 use lib.ListN.{length, take}
 use Rattle.state.specs.declared.State.{State}
 use Rattle.batch.specs.declared.Verdict.{Verdict}
@@ -22,11 +23,11 @@ use Rattle.fade.specs.declared.Turn.{Turn}
 use Rattle.fade.specs.Run.{AfterFeed, Answered, AfterRead, AllAccepted, AtEnd, Refused, Run}
 
 -- a turn leaves a state that is not broken
-pub turn_unbroken : (got : ℤ) (s : State) (l out : List ℕ) (t : Turn) (out' : List ℕ) → broken s ≡ false → AfterRead got s l out t out' → broken t.state ≡ false
+pub turn_unbroken : (got : Result ℕ Error) (s : State) (l out : List ℕ) (t : Turn) (out' : List ℕ) → broken s ≡ false → AfterRead got s l out t out' → broken t.state ≡ false
 unfolding AfterRead
-turn_unbroken (negsuc k) s l out t out' h (u, n) = ap broken u.state_is ∙ h
-turn_unbroken (pos zero) s l out t out' h (u, n) = ap broken u.state_is ∙ h
-turn_unbroken (pos (suc k)) s l out t out' h a = ap broken a.state_is ∙ fed_unbroken s h (take (suc k) l) (length out)
+turn_unbroken (Err e) s l out t out' h (u, n) = ap broken u.state_is ∙ h
+turn_unbroken (Ok zero) s l out t out' h (u, n) = ap broken u.state_is ∙ h
+turn_unbroken (Ok (suc k)) s l out t out' h a = ap broken a.state_is ∙ fed_unbroken s h (take (suc k) l) (length out)
 
 -- a list of accepted calls with one more
 module _ (c : Call) where
@@ -72,7 +73,7 @@ run_out s x m e = no_totals s (record { state = s; next = x }) m refl (λ f. not
 -- a turn that feeds a piece
 module _ (s : State) (p out : List ℕ) (t : Turn) (out' : List ℕ) (m : Come s) (a : Answered s p out t out') where
   abbrev call : Call
-  call = record { piece = p; out = out; returned = fed s p (length out); out_after_lem = out' }
+  call = record { piece = p; out = out; returned = fed s p (length out); out_after = out' }
 
   abbrev with_it : List Call
   with_it = m.calls ++ call ∷ []
@@ -127,17 +128,17 @@ module _ (s : State) (p out : List ℕ) (t : Turn) (out' : List ℕ) (m : Come s
       }
 
 -- a turn after which the next read comes
-pub come_on : (got : ℤ) (s : State) (l out : List ℕ) (t : Turn) (out' : List ℕ) → Come s → AfterRead got s l out t out' → t.next ≡ Read → Come t.state
+pub come_on : (got : Result ℕ Error) (s : State) (l out : List ℕ) (t : Turn) (out' : List ℕ) → Come s → AfterRead got s l out t out' → t.next ≡ Read → Come t.state
 unfolding AfterRead
-come_on (negsuc k) s l out t out' m (u, n) r = rw u.state_is m
-come_on (pos zero) s l out t out' m (u, n) r = absurd (not_both t.next (close_number (closed s)) r n)
-come_on (pos (suc k)) s l out t out' m a r = fed_on s (take (suc k) l) out t out' m a (verdict s (take (suc k) l) (length out)) refl a.next_is r
+come_on (Err e) s l out t out' m (u, n) r = rw u.state_is m
+come_on (Ok zero) s l out t out' m (u, n) r = absurd (not_both t.next (close_number (closed s)) r n)
+come_on (Ok (suc k)) s l out t out' m a r = fed_on s (take (suc k) l) out t out' m a (verdict s (take (suc k) l) (length out)) refl a.next_is r
 
 -- the last turn
-pub run : (got : ℤ) (s : State) (l out : List ℕ) (t : Turn) (out' : List ℕ) → Come s → AfterRead got s l out t out' → (t.next ≡ Read → ⊥) → Run t
+pub run : (got : Result ℕ Error) (s : State) (l out : List ℕ) (t : Turn) (out' : List ℕ) → Come s → AfterRead got s l out t out' → (t.next ≡ Read → ⊥) → Run t
 unfolding AfterRead
-run (negsuc k) s l out t out' m (u, n) o = no_totals s t m u.state_is o (λ i f. ⊎_elim (λ g. not_both t.next i g f) (λ g. not_nothing t.next i g f) n)
-run (pos zero) s l out t out' m (u, n) o =
+run (Err e) s l out t out' m (u, n) o = no_totals s t m u.state_is o (λ i f. ⊎_elim (λ g. not_both t.next i g f) (λ g. not_nothing t.next i g f) n)
+run (Ok zero) s l out t out' m (u, n) o =
     record {
       calls = m.calls;
       made = m.made;
@@ -145,4 +146,4 @@ run (pos zero) s l out t out' m (u, n) o =
       over = o;
       ended = λ i f. inl (record { all_accepted = m.all_accepted; number_is = same_number t.next (close_number (closed s)) i n f ∙ ap (λ (k : State). close_number (closed k)) (sym m.state_is) });
     }
-run (pos (suc k)) s l out t out' m a o = fed_run s (take (suc k) l) out t out' m a o
+run (Ok (suc k)) s l out t out' m a o = fed_run s (take (suc k) l) out t out' m a o

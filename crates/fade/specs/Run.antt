@@ -1,5 +1,6 @@
 -- Document 01, "One pair, one answer": what the batch program works out between what it reads and what it prints.
-use Rattle.std.specs.Prelude.{ℕ, zero, suc, ◌≡◌, true, ◌⊎◌, List, [], ◌∷◌, ◌++◌, ℤ, pos, negsuc, length, take}
+use Rattle.std.specs.Prelude.{ℕ, zero, suc, ◌≡◌, true, ◌⊎◌, List, [], ◌∷◌, ◌++◌, Result, Ok, Err, length, take}
+use Rattle.std.specs.declared.io.Error.{Error}
 use Rattle.state.specs.declared.State.{State}
 use Rattle.batch.specs.declared.Verdict.{Verdict}
 use Rattle.batch.specs.declared.Verdict.TheVariants.{Accepted, Broken, TooManyLines, NoRoom}
@@ -36,10 +37,10 @@ pub record Unfed (s : State) (out : List ℕ) (t : Turn) (out' : List ℕ) : Typ
 
 -- A turn after a read that answered `got`, by what it answered: the read failed, the input is at its end, or that many bytes at the front of l were read. At the end
 -- the totals come, and the number of closing the state.
-unfoldable pub AfterRead : ℤ → State → List ℕ → List ℕ → Turn → List ℕ → Type 0
-AfterRead (negsuc k) s l out t out' = Unfed s out t out' × OrNothing Read t.next
-AfterRead (pos zero) s l out t out' = Unfed s out t out' × (t.next ≡ Totals (close_number (closed s)))
-AfterRead (pos (suc k)) s l out t out' = Answered s (take (suc k) l) out t out'
+unfoldable pub AfterRead : Result ℕ Error → State → List ℕ → List ℕ → Turn → List ℕ → Type 0
+AfterRead (Err e) s l out t out' = Unfed s out t out' × OrNothing Read t.next
+AfterRead (Ok zero) s l out t out' = Unfed s out t out' × (t.next ≡ Totals (close_number (closed s)))
+AfterRead (Ok (suc k)) s l out t out' = Answered s (take (suc k) l) out t out'
 
 -- every call was accepted
 unfoldable pub AllAccepted : List Call → Type 0

@@ -2,14 +2,19 @@
 // end. It reads pieces of at most 8,192 bytes and prints the answers to each with one write, so it
 // takes no more memory for a longer input. Where it cannot read or write, it says so on standard
 // error and prints no totals. What it does between reading and printing is defined in specs/Run.antt.
-ghost use Rattle.std.specs.Prelude.{◌≡◌, false, ℕ, ◌+◌, ◌*◌, ◌≤◌, ℤ, length, take};
+#![tactic(auto)]
+
+ghost use Rattle.std.specs.Prelude.{◌≡◌, false, ◌+◌, ◌*◌, ◌≤◌, ◌↔◌, ℕ, Result, length, take};
+ghost use Rattle.std.specs.IoError.{error_kind};
+ghost use Rattle.std.specs.declared.io.Error.{Error};
 ghost use Rattle.piece.specs.Piece.{more};
 ghost use Rattle.batch.specs.Feed.{closed, close_number};
 ghost use Rattle.state.specs.Holding.{over_long, broken};
 ghost use Rattle.fade.specs.Run.{OrNothing, AfterFeed, Answered, AfterRead, Run, last_lines};
 
 use batch::{Closed, MORE, OVER_LONG, State, TOTALS, Verdict};
-use libc::{EINTR, STDERR_FILENO, STDIN_FILENO, STDOUT_FILENO};
+use std::io;
+use std::io::{Cursor, ErrorKind, Read, Write};
 
 // The most bytes that are read at once.
 const PIECE: usize = 8192;
@@ -23,7 +28,7 @@ const READS: u64 = 0xffff_ffff_ffff_ffff;
 
 // What comes after a read: the next, or the totals with the number of the end, 0 if there is none,
 // or nothing, after a failure that has been told.
-#[derive(Drop)]
+#[derive(Clone, Copy)]
 enum Next {
     Read,
     Totals(u32),
@@ -31,7 +36,7 @@ enum Next {
 }
 
 // The state after a piece, and what comes next.
-#[derive(Drop)]
+#[derive(Clone, Copy)]
 struct Turn {
     state: State,
     next: Next,
@@ -51,45 +56,64 @@ fn never() -> Next
     Next::Nothing
 }
 
+// Writes a line to standard error: what failed, a colon and the error's words, without its number.
+fn fail(rt: &impl Eprint, what: &str, error: io::Error) {
+    let mut text = Cursor::new([0u8; 128]);
+    let _ = write!(text, "{error}");
+    let shown = str::from_utf8(text.get_ref()).unwrap_or("");
+    let words = match shown.split_once(" (os error ") {
+        Some((words, _)) => words,
+        None => shown.trim_end_matches('\0'),
+    };
+    let _ = eprintln!(rt; "{what}: {words}");
+}
+
 // Tells that the reads have run out.
-fn out_of_reads() -> Next
+fn out_of_reads(rt: &impl Eprint) -> Next
     ensures { result ≡ Next.Nothing }
 {
-    io::write_all(STDERR_FILENO, b"fade: too many reads; no totals\n");
+    let _ = eprintln!(rt; "fade: too many reads; no totals");
     Next::Nothing
 }
 
 // After a read that failed: one that a signal interrupted is tried again.
-fn not_read() -> Next
-    ensures { OrNothing Next.Read result }
+fn not_read(rt: &impl Eprint, error: io::Error) -> Next
+    ensures next { OrNothing Next.Read result }
+    ensures again { result ≡ Next.Read ↔ error_kind error ≡ ErrorKind.Interrupted }
 {
-    if os::errno() == EINTR {
+    if error.kind() == ErrorKind::Interrupted {
         return Next::Read;
     }
-    os::fail(b"fade: standard input cannot be read; no totals");
+    fail(rt, "fade: standard input cannot be read; no totals", error);
     Next::Nothing
 }
 
 // Writes text to standard output; `next` comes after it, if it could be written.
-fn print(text: &[u8], next: Next) -> Next
+fn print(rt: &(impl Print + Eprint), text: &[u8], next: Next) -> Next
     ensures { OrNothing next result }
 {
-    if io::write_all(STDOUT_FILENO, text) {
-        return next;
+    match rt.write_all(text) {
+        Ok(()) => next,
+        Err(error) => {
+            fail(
+                rt,
+                "fade: standard output cannot be written; it is not whole",
+                error,
+            );
+            Next::Nothing
+        }
     }
-    os::fail(b"fade: standard output cannot be written; it is not whole");
-    Next::Nothing
 }
 
 // Prints the answers to a piece that was accepted; 6 ends the reading. 5 and 7 do not come.
-fn print_answers(verdict: Verdict, out: &[u8]) -> Next
-    requires by_index { (n : ℕ) → verdict ≡ Verdict.Accepted n → n ≤ length out.now }
-    requires fact { verdict ≡ Verdict.Broken → ⊥ }
-    requires fact_2 { verdict ≡ Verdict.NoRoom → ⊥ }
+fn print_answers(rt: &(impl Print + Eprint), verdict: Verdict, out: &[u8]) -> Next
+    requires fits { (n : ℕ) → verdict ≡ Verdict.Accepted n → n ≤ length out.now }
+    requires not_broken { verdict ≡ Verdict.Broken → ⊥ }
+    requires has_room { verdict ≡ Verdict.NoRoom → ⊥ }
     ensures { AfterFeed verdict result }
 {
     match verdict {
-        Verdict::Accepted(n) => print(&out[..n], Next::Read),
+        Verdict::Accepted(n) => print(rt, &out[..n], Next::Read),
         Verdict::TooManyLines => Next::Totals(batch::feed_number(verdict)),
         Verdict::Broken => never(),
         Verdict::NoRoom => never(),
@@ -111,68 +135,88 @@ fn at_end(state: State) -> Next
 
 // Feeds a piece and prints its answers. The output has room for the answers to any piece of this
 // length.
-fn answer_piece(state: State, piece: &[u8], out: &mut [u8]) -> Turn
-    requires state_value { broken state ≡ false }
-    requires piece_in_bounds { over_long + length piece.now + more * length piece.now ≤ length out.old }
+fn answer_piece(rt: &(impl Print + Eprint), state: State, piece: &[u8], out: &mut [u8]) -> Turn
+    requires not_broken { broken state ≡ false }
+    requires has_room { over_long + length piece.now + more * length piece.now ≤ length out.old }
     ensures { Answered state piece.now out.old result out.new }
 {
     let fed = batch::feed(state, piece, out);
     let after = fed.state;
     let verdict = fed.verdict;
-    let next = print_answers(verdict, out);
+    let next = print_answers(rt, verdict, out);
     Turn { state: after, next }
 }
 
 // After a read that answered `got`: answers what was read to the front of `piece`.
-fn after_read(state: State, got: isize, piece: &[u8], out: &mut [u8]) -> Turn
-    requires state_value { broken state ≡ false }
-    requires piece_in_bounds { over_long + length piece.now + more * length piece.now ≤ length out.old }
+fn after_read(
+    rt: &(impl Print + Eprint),
+    state: State,
+    got: io::Result<usize>,
+    piece: &[u8],
+    out: &mut [u8],
+) -> Turn
+    requires not_broken { broken state ≡ false }
+    requires has_room { over_long + length piece.now + more * length piece.now ≤ length out.old }
     ensures { AfterRead got state piece.now out.old result out.new }
 {
-    if got < 0 {
-        let next = not_read();
-        return Turn { state, next };
+    match got {
+        Err(error) => {
+            let next = not_read(rt, error);
+            Turn { state, next }
+        }
+        Ok(n) => {
+            if n == 0 {
+                let next = at_end(state);
+                return Turn { state, next };
+            }
+            answer_piece(rt, state, &piece[..n.min(piece.len())], out)
+        }
     }
-    if got == 0 {
-        let next = at_end(state);
-        return Turn { state, next };
-    }
-    let n = io::count(got, piece);
-    answer_piece(state, &piece[..n], out)
 }
 
-// Reads a piece and answers it: for some number, this is the turn after a read that answered it.
-fn read_piece(state: State, piece: &mut [u8], out: &mut [u8]) -> Turn
-    requires state_value { broken state ≡ false }
-    requires piece_in_bounds { over_long + length piece.old + more * length piece.old ≤ length out.old }
-    ensures state_value_2 { broken result.state ≡ false }
-    ensures after_read { (got : ℤ) × AfterRead got state piece.new out.old result out.new }
+// Reads a piece and answers it: for some answer of a read, this is the turn after that read.
+fn read_piece(
+    rt: &(impl Print + Eprint),
+    input: &mut impl Read,
+    state: State,
+    piece: &mut [u8],
+    out: &mut [u8],
+) -> Turn
+    requires not_broken { broken state ≡ false }
+    requires has_room { over_long + length piece.old + more * length piece.old ≤ length out.old }
+    ensures not_broken { broken result.state ≡ false }
+    ensures turn { (got : Result ℕ Error) × AfterRead got state piece.new out.old result out.new }
 {
-    let got = libc::read(STDIN_FILENO, piece);
-    after_read(state, got, piece, out)
+    let got = input.read(piece);
+    after_read(rt, state, got, piece, out)
 }
 
 // Reads and answers up to the end of the input.
-fn answer_input(piece: &mut [u8], out: &mut [u8]) -> Turn
+fn answer_input(
+    rt: &(impl Print + Eprint),
+    input: &mut impl Read,
+    piece: &mut [u8],
+    out: &mut [u8],
+) -> Turn
     requires { over_long + length piece.old + more * length piece.old ≤ length out.old }
     ensures { Run result }
 {
     let mut state = batch::fresh();
     for _ in 0..READS {
-        let turn = read_piece(state, piece, out);
+        let turn = read_piece(rt, input, state, piece, out);
         let next = turn.next;
         let Next::Read = next else {
             return turn;
         };
         state = turn.state;
     }
-    let next = out_of_reads();
+    let next = out_of_reads(rt);
     Turn { state, next }
 }
 
 // Where the totals come, prints them, and the end's number if there is one. Returns the text, which is
 // empty where none comes.
-fn print_totals(turn: Turn) -> Text
+fn print_totals(rt: &(impl Print + Eprint), turn: Turn) -> Text
     ensures { take result.count result.bytes ≡ last_lines turn.state turn.next }
 {
     let mut out = [0u8; TOTALS];
@@ -184,15 +228,17 @@ fn print_totals(turn: Turn) -> Text
         };
     };
     let n = batch::write_totals(turn.state, end, &mut out);
-    print(&out[..n], Next::Nothing);
+    print(rt, &out[..n], Next::Nothing);
     Text {
         bytes: out,
         count: n,
     }
 }
 
-fn main() {
+fn main(rt: HostRuntime) {
+    let mut input = rt.stdin();
     let mut piece = [0u8; PIECE];
     let mut out = [0u8; ANSWERS];
-    print_totals(answer_input(&mut piece, &mut out));
+    let last = answer_input(&rt, &mut input, &mut piece, &mut out);
+    print_totals(&rt, last);
 }

@@ -2,6 +2,8 @@
 // themselves, and a double-double as a C struct of two doubles, lo and hi. Each is one call of the
 // function of the same name below, and says the same of its result. None has a `requires`.
 // `fade_compoundf` is exported by `exports`.
+#![tactic(auto)]
+
 ghost use Rattle.std.specs.Prelude.{◌≡◌};
 ghost use Rattle.std.specs.Float.{binary32, binary64};
 ghost use Rattle.std.specs.Float.Ieee.{to_bits, of_bits};

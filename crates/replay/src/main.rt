@@ -1,10 +1,13 @@
 // Replays a list of pairs. A line of standard input has two patterns of f32, eight hexadecimal digits
 // each, with a space between; it is written again with the answer's pattern and its route. The list
 // and what must be written are made from the Rust (oracle/README.md).
+#![tactic(auto)]
+
 ghost use Rattle.std.specs.Prelude.{◌<◌, ◌≤◌};
 
 use compound::Answer;
-use libc::{STDIN_FILENO, STDOUT_FILENO};
+use std::io;
+use std::io::{ErrorKind, Read};
 
 // How many lines are read at most.
 const LINES: u32 = 100_000;
@@ -32,33 +35,35 @@ fn pattern(line: &[u8; 18], at: usize) -> u32
 }
 
 // Writes the pattern of r, and the route.
-fn print_answer(r: f32, via: &[u8]) {
-    io::print_hex(STDOUT_FILENO, floats::patterns::to_bits_f32(r) as u64, 8);
-    io::write_all(STDOUT_FILENO, via);
+fn print_answer(rt: &impl Print, r: f32, via: &str) -> io::Result<()> {
+    let bits = floats::patterns::to_bits_f32(r);
+    println!(rt; "{bits:08x} {via}")
 }
 
 // Writes the line again, with its answer.
-fn replay(nx: u32, ny: u32) {
-    io::print_hex(STDOUT_FILENO, nx as u64, 8);
-    io::write_all(STDOUT_FILENO, b" ");
-    io::print_hex(STDOUT_FILENO, ny as u64, 8);
-    io::write_all(STDOUT_FILENO, b" ");
+fn replay(rt: &impl Print, nx: u32, ny: u32) -> io::Result<()> {
+    print!(rt; "{nx:08x} {ny:08x} ")?;
     let answer = compound::f_compoundf(nx, ny);
     match answer {
-        Answer::Rule(r) => print_answer(r, b" rule\n"),
-        Answer::Whole(r) => print_answer(r, b" whole\n"),
-        Answer::Edge(r) => print_answer(r, b" edge\n"),
-        Answer::Fast(r) => print_answer(r, b" fast\n"),
-        Answer::Slow(r) => print_answer(r, b" slow\n"),
+        Answer::Rule(r) => print_answer(rt, r, "rule"),
+        Answer::Whole(r) => print_answer(rt, r, "whole"),
+        Answer::Edge(r) => print_answer(rt, r, "edge"),
+        Answer::Fast(r) => print_answer(rt, r, "fast"),
+        Answer::Slow(r) => print_answer(rt, r, "slow"),
     }
 }
 
-fn main() {
-    for k in 0..LINES {
+fn main(rt: HostRuntime) -> io::Result<()> {
+    let mut input = rt.stdin();
+    for _ in 0..LINES {
         let mut line = [0u8; 18];
-        if io::read_full(STDIN_FILENO, &mut line) < 18 {
-            return;
+        if let Err(e) = input.read_exact(&mut line) {
+            if e.kind() == ErrorKind::UnexpectedEof {
+                return Ok(());
+            }
+            return Err(e);
         }
-        replay(pattern(&line, 0), pattern(&line, 9));
+        replay(&rt, pattern(&line, 0), pattern(&line, 9))?;
     }
+    Ok(())
 }
