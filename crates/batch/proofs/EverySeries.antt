@@ -47,9 +47,9 @@ pub record Step (t : List ℕ) (c : Call) : Type 0 where
   pub wrote_is : wrote c ≡ cond (is_accepted c) (answer_lines (adds t c.piece)) []
   pub verdict_is : c.returned.verdict ≡ due t c.piece (length c.out)
   pub never_five : c.returned.verdict ≡ Broken → ⊥
-  pub leaves : is_accepted c ≡ false → (c.returned.state ≡ after_all t) × (c.out-after ≡ c.out)
+  pub leaves : is_accepted c ≡ false → (c.returned.state ≡ after_all t) × (c.out_after ≡ c.out)
   pub wrote_said : length (wrote c) ≡ said c.returned.verdict
-  pub kept : c.out-after ≡ wrote c ++ drop (said c.returned.verdict) c.out
+  pub kept : c.out_after ≡ wrote c ++ drop (said c.returned.verdict) c.out
 
 -- two refusals, else accepted: what such an answer is
 module _ (m : ℕ) where
@@ -125,7 +125,7 @@ module _ (t p : List ℕ) (room : ℕ) where
   unfolding due chosen
   due_not_five e = not_five (length (answer_lines (adds t p))) (ltb most_lines (feeds t + feeds p)) (ltb room (length (answer_lines (adds t p)))) e
 
-module _ (t : List ℕ) (c : Call) (d : Did (after_all t) c.piece c.out c.returned c.out-after) where
+module _ (t : List ℕ) (c : Call) (d : Did (after_all t) c.piece c.out c.returned c.out_after) where
   is_due : c.returned.verdict ≡ due t c.piece (length c.out)
   unfolding fed
   is_due = ap (λ (r : Fed). r.verdict) d.result ∙ verdict_due t c.piece (length c.out)
@@ -147,8 +147,8 @@ module _ (t : List ℕ) (c : Call) (d : Did (after_all t) c.piece c.out c.return
       let no : is_accepted c ≡ false = ap (λ (k : Verdict). eqb (number k) 0) e ∙ r in
       let none : t ++ taken c ≡ t = ap (λ (b : Bool). t ++ cond b c.piece []) no ∙ append-nil t in
       let state : c.returned.state ≡ after_all t = its_state ∙ ap (λ (k : Verdict). state_after k (after_all t) c.piece) e ∙ st in
-      let out : c.out-after ≡ c.out = d.output ∙ ap (λ (k : Verdict). out_after k (after_all t) c.piece c.out) e ∙ o in
-      let wrote_none : wrote c ≡ [] = ap (λ (k : ℕ). take k c.out-after) (ap said e ∙ s) in
+      let out : c.out_after ≡ c.out = d.output ∙ ap (λ (k : Verdict). out_after k (after_all t) c.piece c.out) e ∙ o in
+      let wrote_none : wrote c ≡ [] = ap (λ (k : ℕ). take k c.out_after) (ap said e ∙ s) in
       record {
         state_is = state ∙ ap after_all (sym none);
         wrote_after = ap (λ (k : List ℕ). answer_lines (lines t) ++ k) wrote_none ∙ append-nil (answer_lines (lines t)) ∙ ap (λ (k : List ℕ). answer_lines (lines k)) (sym none);
@@ -167,10 +167,10 @@ module _ (t : List ℕ) (c : Call) (d : Did (after_all t) c.piece c.out c.return
       let yes : is_accepted c ≡ true = ap (λ (k : Verdict). eqb (number k) 0) e in
       let all : t ++ taken c ≡ t ++ c.piece = ap (λ (b : Bool). t ++ cond b c.piece []) yes in
       let size : length (answer_lines (added (after_all t) c.piece)) ≡ n = ap length (answers_added t c.piece) ∙ sym (due_says t c.piece (length c.out) n (sym is_due ∙ e)) in
-      let out : c.out-after ≡ answer_lines (added (after_all t) c.piece) ++ drop n c.out = d.output ∙ ap (λ (k : Verdict). out_after k (after_all t) c.piece c.out) e in
+      let out : c.out_after ≡ answer_lines (added (after_all t) c.piece) ++ drop n c.out = d.output ∙ ap (λ (k : Verdict). out_after k (after_all t) c.piece c.out) e in
       let count : said c.returned.verdict ≡ n = ap said e in
       let front : wrote c ≡ answer_lines (added (after_all t) c.piece) =
-      ap (λ (k : ℕ). take k c.out-after) count ∙ ap (take n) out ∙ take_at (answer_lines (added (after_all t) c.piece)) (drop n c.out) n size in
+      ap (λ (k : ℕ). take k c.out_after) count ∙ ap (take n) out ∙ take_at (answer_lines (added (after_all t) c.piece)) (drop n c.out) n size in
       record {
         state_is = its_state ∙ ap (λ (k : Verdict). state_after k (after_all t) c.piece) e ∙ after_more t c.piece ∙ ap after_all (sym all);
         wrote_is = front ∙ answers_added t c.piece ∙ ap (λ (b : Bool). cond b (answer_lines (adds t c.piece)) []) (sym yes);
@@ -201,10 +201,10 @@ module _ (t : List ℕ) (c : Call) (d : Did (after_all t) c.piece c.out c.return
 record After (t : List ℕ) (before : List Call) (c : Call) : Type 0 where
   pub verdict_is : c.returned.verdict ≡ due (t ++ accepted before) c.piece (length c.out)
   pub never_five : c.returned.verdict ≡ Broken → ⊥
-  pub leaves : is_accepted c ≡ false → (c.returned.state ≡ state_of (after_all t) before) × (c.out-after ≡ c.out)
+  pub leaves : is_accepted c ≡ false → (c.returned.state ≡ state_of (after_all t) before) × (c.out_after ≡ c.out)
   pub wrote_is : wrote c ≡ cond (is_accepted c) (answer_lines (adds (t ++ accepted before) c.piece)) []
   pub wrote_said : length (wrote c) ≡ said c.returned.verdict
-  pub kept : c.out-after ≡ wrote c ++ drop (said c.returned.verdict) c.out
+  pub kept : c.out_after ≡ wrote c ++ drop (said c.returned.verdict) c.out
 
 -- the calls of a list, where t was taken before it
 record From (t : List ℕ) (cs : List Call) : Type 0 where
@@ -323,7 +323,7 @@ calls_of s [] = ([], (refl, tt))
 calls_of s ((p, out) ∷ given) = more (calls_of (fed s p (length out)).state given)
   where
     call : Call
-    call = record { piece = p; out = out; returned = fed s p (length out); out_after_lem = out_after (fed s p (length out)).verdict s p out }
+    call = record { piece = p; out = out; returned = fed s p (length out); out_after = out_after (fed s p (length out)).verdict s p out }
 
     more : (cs : List Call) × ((map (λ (c : Call). (c.piece, c.out)) cs ≡ given) × Calls Did (fed s p (length out)).state cs)
         → (cs : List Call) × ((map (λ (c : Call). (c.piece, c.out)) cs ≡ (p, out) ∷ given) × Calls Did s cs)

@@ -35,7 +35,7 @@ from_fresh p = ap (λ (k : State). answer_lines (added k p)) (sym after_none) �
 
 -- a list of calls with one more
 module _ (c : Call) where
-  pub calls_more : (s : State) (cs : List Call) → Calls Did s cs → Did (state_of s cs) c.piece c.out c.returned c.out-after → Calls Did s (cs ++ c ∷ [])
+  pub calls_more : (s : State) (cs : List Call) → Calls Did s cs → Did (state_of s cs) c.piece c.out c.returned c.out_after → Calls Did s (cs ++ c ∷ [])
   unfolding Calls state_of
   calls_more s [] ds d = (d, tt)
   calls_more s (b ∷ cs) (e, ds) d = (e, calls_more b.returned.state cs ds d)
@@ -150,7 +150,7 @@ module _ (input out₀ out : List ℕ) (s : State) (from at : ℕ) (cs : List Ca
   -- one call more, on what is left of the output
   module _ (to : ℕ) (h : from < to) (g : to ≤ length input) (r : Fed) (part : List ℕ) (q : List ℕ) (qe : q ≡ drop at out) (d : Did s (take (to - from) (drop from input)) q r part) where
     abbrev pub call : Call
-    call = record { piece = take (to - from) (drop from input); out = q; returned = r; out_after_lem = part }
+    call = record { piece = take (to - from) (drop from input); out = q; returned = r; out_after = part }
 
     more_calls : Calls Did fresh (cs ++ call ∷ [])
     more_calls = calls_more call fresh cs m.calls (rw m.state_is d)

@@ -22,13 +22,13 @@ pub record Call : Type 0 where
   pub piece : List ℕ
   pub out : List ℕ
   pub returned : Fed
-  pub out_after_lem : List ℕ
+  pub out_after : List ℕ
 
 -- "The first call gets a fresh state, each later one what the call before returned or left, and nothing else writes to the state in between." R says what a call
 -- given a state, a piece and an output space returns, and what it leaves in the output.
 unfoldable pub Calls : (State → List ℕ → List ℕ → Fed → List ℕ → Type 0) → State → List Call → Type 0
 Calls R s [] = Unit
-Calls R s (c ∷ cs) = R s c.piece c.out c.returned c.out-after × Calls R c.returned.state cs
+Calls R s (c ∷ cs) = R s c.piece c.out c.returned c.out_after × Calls R c.returned.state cs
 
 -- the state after the calls
 unfoldable pub state_of : State → List Call → State
@@ -57,7 +57,7 @@ said NoRoom = 0
 
 -- "the bytes it wrote are that many from the front of its output, as they stand when it returns. A refused one wrote none."
 unfoldable pub wrote : Call → List ℕ
-wrote c = take (said c.returned.verdict) c.out-after
+wrote c = take (said c.returned.verdict) c.out_after
 
 -- "the bytes written, joined"
 unfoldable pub wrote_all : List Call → List ℕ
@@ -112,12 +112,12 @@ pub record Obeyed (before : List Call) (c : Call) : Type 0 where
   -- "In such a list 5 never comes."
   pub never_five : c.returned.verdict ≡ Broken → ⊥
   -- demand 1: "with state and lent bytes untouched"
-  pub refused_leaves : is_accepted c ≡ false → (c.returned.state ≡ state_of fresh before) × (c.out-after ≡ c.out)
+  pub refused_leaves : is_accepted c ≡ false → (c.returned.state ≡ state_of fresh before) × (c.out_after ≡ c.out)
   -- the answer lines of the lines that it adds; "A refused one wrote none."
   pub wrote_is : wrote c ≡ cond (is_accepted c) (answer_lines (adds (accepted before) c.piece)) []
   -- "the bytes it wrote are that many from the front of its output"; "those after them keep their values"
   pub wrote_said : length (wrote c) ≡ said c.returned.verdict
-  pub rest_kept : c.out-after ≡ wrote c ++ drop (said c.returned.verdict) c.out
+  pub rest_kept : c.out_after ≡ wrote c ++ drop (said c.returned.verdict) c.out
 
 -- demand 3, of a list of calls from a fresh state
 pub record Served (cs : List Call) : Type 0 where

@@ -2,6 +2,8 @@
 // input to the next. `feed` takes a piece and writes the answer lines of the lines that it completes;
 // `close` says whether the input ended with a whole line. What they do is defined in specs/Feed.antt,
 // and what a series of feeds comes to in specs/Series.antt.
+#![tactic(auto)]
+
 mod pieces;
 
 ghost use Rattle.std.specs.Prelude.{◌≡◌};
@@ -15,7 +17,7 @@ pub use state::{OVER_LONG, State, Tail, Tallies, fresh};
 pub use totals::{TOTALS, write_totals};
 
 // What feed answers: how many bytes it wrote, or why it took nothing, 5 to 7 in this order.
-#[derive(Drop)]
+#[derive(Clone, Copy)]
 pub enum Verdict {
     Accepted(usize),
     Broken,
@@ -24,14 +26,14 @@ pub enum Verdict {
 }
 
 // The state after a feed, and its answer.
-#[derive(Drop)]
+#[derive(Clone, Copy)]
 pub struct Fed {
     pub state: State,
     pub verdict: Verdict,
 }
 
 // What close answers: the input ended with a whole line, or why not, 5 and 8 in this order.
-#[derive(Drop)]
+#[derive(Clone, Copy)]
 pub enum Closed {
     Finished,
     BrokenState,

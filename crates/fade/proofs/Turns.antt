@@ -73,7 +73,7 @@ run_out s x m e = no_totals s (record { state = s; next = x }) m refl (λ f. not
 -- a turn that feeds a piece
 module _ (s : State) (p out : List ℕ) (t : Turn) (out' : List ℕ) (m : Come s) (a : Answered s p out t out') where
   abbrev call : Call
-  call = record { piece = p; out = out; returned = fed s p (length out); out_after_lem = out' }
+  call = record { piece = p; out = out; returned = fed s p (length out); out_after = out' }
 
   abbrev with_it : List Call
   with_it = m.calls ++ call ∷ []

@@ -13,7 +13,7 @@ use lib.Seq.{take_at, drop_at, get_or_at, get_or-drop, drop-drop, drop-cons, dro
 use Rattle.text.specs.Bytes.{begins, all, leading}
 use Rattle.text.specs.Digits.{places, decimal, hex, is_decimal, is_hex, value}
 use Rattle.lines.specs.Fields.{key_of}
-use Rattle.lines.specs.Format.{longest, largest_id, id_key, xKey, yKey, space, line_of, InRange, Format}
+use Rattle.lines.specs.Format.{longest, largest_id, id_key, x_key, y_key, space, line_of, InRange, Format}
 use Rattle.lines.specs.Format.{id_digits, is_d, has_id, after_id, hex_digits, has_hex, has_x, after_x, has_y, read_line}
 use Rattle.lines.specs.declared.Line.TheVariants.{Pair}
 use Rattle.text.proofs.Numerals.{both, sixteen, length_decimal, length_hex, all_decimal, all_hex, places_monotone, value_below}
@@ -229,8 +229,8 @@ record Accepted (l : List ℕ) (d x y : ℕ) : Type 0 where
   x_field : has_x (after_id l) ≡ true
   y_field : has_y (after_x (after_id l)) ≡ true
   d_is : value 10 (id_digits l) ≡ d
-  x_is : value 16 (hex_digits xKey (after_id l)) ≡ x
-  y_is : value 16 (hex_digits yKey (after_x (after_id l))) ≡ y
+  x_is : value 16 (hex_digits x_key (after_id l)) ≡ x
+  y_is : value 16 (hex_digits y_key (after_x (after_id l))) ≡ y
 
 -- of the definition's choice, the only way to a pair
 never : ◌≡◌ {A = ℕ} 0 1 → ⊥
@@ -249,11 +249,11 @@ accepted l d x y e = by (ltb longest (length l)) (has_id l) (has_x (after_id l))
     by false true true true p q r s = let f = simp (p, q, r, s) at e in record { short = p; id = q; x_field = r; y_field = s; d_is = cc; x_is = cc; y_is = cc }
 
 module _ (l : List ℕ) (d x y : ℕ) (a : Accepted l d x y) where
-  x_tests : (has_hex xKey (after_id l) ≡ true) × (eqb (get_or (after_id l) 10 0) space ≡ true)
+  x_tests : (has_hex x_key (after_id l) ≡ true) × (eqb (get_or (after_id l) 10 0) space ≡ true)
   unfolding has_x
   x_tests = both _ _ a.x_field
 
-  y_tests : (has_hex yKey (after_x (after_id l)) ≡ true) × (eqb (length (after_x (after_id l))) 10 ≡ true)
+  y_tests : (has_hex y_key (after_x (after_id l)) ≡ true) × (eqb (length (after_x (after_id l))) 10 ≡ true)
   unfolding has_y
   y_tests = both _ _ a.y_field
 
@@ -275,7 +275,7 @@ module _ (l : List ℕ) (d x y : ℕ) (a : Accepted l d x y) where
   unfolding after_x
   x_end =
       h_shape 120 (after_id l) x_tests.0
-      ∙ ap (λ (m : List ℕ). 120 ∷ 61 ∷ (hex (value 16 (hex_digits xKey (after_id l))) ++ m)) (spaced (after_id l) 10 x_tests.1 ∙ ap (λ (m : List ℕ). space ∷ m) y_end)
+      ∙ ap (λ (m : List ℕ). 120 ∷ 61 ∷ (hex (value 16 (hex_digits x_key (after_id l))) ++ m)) (spaced (after_id l) 10 x_tests.1 ∙ ap (λ (m : List ℕ). space ∷ m) y_end)
       ∙ ap (λ (n : ℕ). 120 ∷ 61 ∷ (hex n ++ (space ∷ from_y y))) a.x_is
 
   line_is : l ≡ line_of d x y

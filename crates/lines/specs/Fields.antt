@@ -17,8 +17,8 @@ digits_at at l = leading is_decimal (drop at l)
 abbrev pub number_at : ℕ → List ℕ → Field
 number_at at l = field (leb (value 10 (digits_at at l)) largest_id) (value 10 (digits_at at l)) (at + length (digits_at at l))
 
-abbrev pub dAt : ℕ → List ℕ → Field
-dAt at l = field (is_d (digits_at at l)) (value 10 (digits_at at l)) (at + length (digits_at at l))
+abbrev pub d_at : ℕ → List ℕ → Field
+d_at at l = field (is_d (digits_at at l)) (value 10 (digits_at at l)) (at + length (digits_at at l))
 
 -- "`id=`, D, a space": D, and the place after these
 abbrev pub id_of : List ℕ → Field
@@ -28,8 +28,8 @@ id_of l = field (has_id l) (value 10 (id_digits l)) (length id_key + length (id_
 abbrev pub is_h : List ℕ → Bool
 is_h hs = eqb (length hs) 8 && all is_hex hs
 
-abbrev pub hAt : ℕ → List ℕ → Field
-hAt at l = field (is_h (eight_at at l)) (value 16 (eight_at at l)) (at + 8)
+abbrev pub h_at : ℕ → List ℕ → Field
+h_at at l = field (is_h (eight_at at l)) (value 16 (eight_at at l)) (at + 8)
 
 -- a key, of its byte and `=`
 abbrev pub key_of : ℕ → List ℕ

@@ -17,11 +17,11 @@ largest_id = 65535
 abbrev pub id_key : List ℕ
 id_key = 105 ∷ 100 ∷ 61 ∷ []
 
-abbrev pub xKey : List ℕ
-xKey = 120 ∷ 61 ∷ []
+abbrev pub x_key : List ℕ
+x_key = 120 ∷ 61 ∷ []
 
-abbrev pub yKey : List ℕ
-yKey = 121 ∷ 61 ∷ []
+abbrev pub y_key : List ℕ
+y_key = 121 ∷ 61 ∷ []
 
 -- a space
 abbrev pub space : ℕ
@@ -29,7 +29,7 @@ space = 32
 
 -- "An input line is `id=D x=H y=H`": the line that says d, x and y
 unfoldable pub line_of : ℕ → ℕ → ℕ → List ℕ
-line_of d x y = id_key ++ decimal d ++ (space ∷ xKey) ++ hex x ++ (space ∷ yKey) ++ hex y
+line_of d x y = id_key ++ decimal d ++ (space ∷ x_key) ++ hex x ++ (space ∷ y_key) ++ hex y
 
 -- the digits that follow `id=`
 unfoldable pub id_digits : List ℕ → List ℕ
@@ -55,14 +55,14 @@ has_hex key l = begins key l && eqb (length (hex_digits key l)) 8 && all is_hex 
 
 -- whether what follows begins with "`x=`, H, a space"; and what follows these
 unfoldable pub has_x : List ℕ → Bool
-has_x l = has_hex xKey l && eqb (get_or l (length xKey + 8) 0) space
+has_x l = has_hex x_key l && eqb (get_or l (length x_key + 8) 0) space
 
 unfoldable pub after_x : List ℕ → List ℕ
-after_x l = drop (length xKey + 8 + 1) l
+after_x l = drop (length x_key + 8 + 1) l
 
 -- whether the rest is "just `y=`, H"
 unfoldable pub has_y : List ℕ → Bool
-has_y l = has_hex yKey l && eqb (length l) (length yKey + 8)
+has_y l = has_hex y_key l && eqb (length l) (length y_key + 8)
 
 -- what a line says, or why it is refused: "Lines are tried in the order 1 to 4"
 unfoldable pub read_line : List ℕ → Line
@@ -71,7 +71,7 @@ read_line l =
     (cond (not (has_id l)) NoId
     (cond (not (has_x (after_id l))) NoX
     (cond (not (has_y (after_x (after_id l)))) NoY
-    (Pair (value 10 (id_digits l)) (value 16 (hex_digits xKey (after_id l))) (value 16 (hex_digits yKey (after_x (after_id l))))))))
+    (Pair (value 10 (id_digits l)) (value 16 (hex_digits x_key (after_id l))) (value 16 (hex_digits y_key (after_x (after_id l))))))))
 
 -- the numbers of the refusals
 unfoldable pub number : Line → ℕ

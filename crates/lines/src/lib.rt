@@ -15,7 +15,7 @@ pub const LONGEST: usize = 30;
 pub const LARGEST_ID: u32 = 65535;
 
 // What a line says: the id and the patterns of x and y; or why it is refused, 1 to 4 in this order.
-#[derive(Drop)]
+#[derive(Clone, Copy)]
 pub enum Line {
     Pair(u32, u32, u32),
     TooLong,

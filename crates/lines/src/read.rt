@@ -1,13 +1,13 @@
 // Reading an input line.
 ghost use Rattle.std.specs.Prelude.{◌≡◌, ◌+◌, ◌≤◌, ◌<◌, eqb, length, get_or};
-ghost use Rattle.lines.specs.Fields.{number_at, dAt, id_of, hAt, hex_at};
+ghost use Rattle.lines.specs.Fields.{number_at, d_at, id_of, h_at, hex_at};
 ghost use Rattle.lines.specs.Format.{read_line};
 
 use crate::{LARGEST_ID, LONGEST, Line};
 use text::{all_hex, hex_number};
 
 // What reading a field finds: its value and the place after it.
-#[derive(Drop)]
+#[derive(Clone, Copy)]
 pub(crate) enum Field {
     Read(u32, usize),
     Missing,
@@ -53,7 +53,7 @@ fn read_decimal(line: &[u8], from: usize) -> Field
 // The D at a place.
 fn read_d(line: &[u8], from: usize) -> Field
     requires { from ≤ length line.now }
-    ensures { result ≡ dAt from line.now }
+    ensures { result ≡ d_at from line.now }
 {
     let Field::Read(d, end) = read_decimal(line, from) else {
         return Field::Missing;
@@ -95,7 +95,7 @@ fn read_id(line: &[u8]) -> Field
 // The H at a place.
 fn read_h(line: &[u8], from: usize) -> Field
     requires { from ≤ length line.now }
-    ensures { result ≡ hAt from line.now }
+    ensures { result ≡ h_at from line.now }
 {
     if line.len() - from < 8 {
         return Field::Missing;

@@ -15,7 +15,7 @@ use state::{State, Tallies, carry_on, empty, total};
 
 // How far the answering has come: the place after the bytes written, the place after the last line
 // feed, the tallies.
-#[derive(Drop)]
+#[derive(Clone, Copy)]
 pub(crate) struct Progress {
     pub at: usize,
     pub from: usize,
@@ -25,9 +25,9 @@ pub(crate) struct Progress {
 // Takes a piece whose answer lines have room.
 pub fn take_piece(state: State, piece: &[u8], out: &mut [u8]) -> Taken
     requires sound { Sound state.tail }
-    requires tallies_value { Tally·total state.tallies ≡ state.lines }
-    requires piece_bound { state.lines + Complete·feeds piece.now ≤ most_lines }
-    requires piece_in_bounds { length (answer_lines (added state piece.now)) ≤ length out.old }
+    requires adds_up { Tally·total state.tallies ≡ state.lines }
+    requires countable { state.lines + Complete·feeds piece.now ≤ most_lines }
+    requires room { length (answer_lines (added state piece.now)) ≤ length out.old }
     ensures value { result ≡ record { state = after state piece.now; wrote = length (answer_lines (added state piece.now)) } }
     ensures out_after { out.new ≡ put out.old 0 (answer_lines (added state piece.now)) }
 {
@@ -65,11 +65,11 @@ pub fn take_piece(state: State, piece: &[u8], out: &mut [u8]) -> Taken
 // Answers the complete lines from `from` on.
 fn answer_lines(piece: &[u8], from: usize, tallies: Tallies, out: &mut [u8], at: usize) -> Progress
     requires from_in_bounds { from ≤ length piece.now }
-    requires piece_bound { Tally·total tallies + Complete·feeds (drop from piece.now) ≤ most_lines }
-    requires piece_in_bounds { at + length (answer_lines (Complete·lines (drop from piece.now))) ≤ length out.old }
+    requires countable { Tally·total tallies + Complete·feeds (drop from piece.now) ≤ most_lines }
+    requires room { at + length (answer_lines (Complete·lines (drop from piece.now))) ≤ length out.old }
     ensures at_value { result.at ≡ at + length (answer_lines (Complete·lines (drop from piece.now))) }
-    ensures from_in_bounds_2 { (result.from ≤ length piece.now) × (drop result.from piece.now ≡ rest (drop from piece.now)) }
-    ensures tallies_value { result.tallies ≡ plus tallies (counts (replies (Complete·lines (drop from piece.now)))) }
+    ensures rest_follows { (result.from ≤ length piece.now) × (drop result.from piece.now ≡ rest (drop from piece.now)) }
+    ensures tallies_counted { result.tallies ≡ plus tallies (counts (replies (Complete·lines (drop from piece.now)))) }
     ensures out_after { out.new ≡ put out.old at (answer_lines (Complete·lines (drop from piece.now))) }
 {
     let mut i = from;

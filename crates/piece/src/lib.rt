@@ -1,5 +1,7 @@
 // One piece of input: whether its lines can be counted, whether their answers have room, and the lines
 // answered one after another, each counted. What a piece adds is defined in specs/Piece.antt.
+#![tactic(auto)]
+
 mod answer;
 mod held;
 mod measure;
@@ -16,7 +18,7 @@ pub const MOST_LINES: u32 = 0xffff_ffff;
 pub const MORE: usize = 5;
 
 // What taking a piece gives: the state after it, and how many bytes were written.
-#[derive(Drop)]
+#[derive(Clone, Copy)]
 pub struct Taken {
     pub state: State,
     pub wrote: usize,

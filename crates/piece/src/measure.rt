@@ -26,7 +26,7 @@ pub fn too_many(lines: u32, piece: &[u8]) -> bool
 // have.
 pub fn is_short(tail: Tail, piece: &[u8], room: usize) -> bool
     requires sound { Sound tail }
-    requires piece_bound { feeds piece.now ≤ most_lines }
+    requires countable { feeds piece.now ≤ most_lines }
     ensures { result ≡ ltb room (length (answer_lines (lines_from (carried tail) piece.now))) }
 {
     if has_room(tail.count as usize, piece, room) {

@@ -1,5 +1,7 @@
 // Replies: what an input line is answered with, and its answer line, `id=D r=H via=W` or `bad=N`. The
 // answer line is defined in specs/Reply.antt.
+#![tactic(auto)]
+
 mod write;
 
 ghost use Rattle.std.specs.Prelude.{◌≡◌};
@@ -10,7 +12,7 @@ use lines::{Line, read_line};
 pub use write::{reply_length, write_reply};
 
 // What a line is answered with: its id and the answer, or the number of its refusal.
-#[derive(Drop)]
+#[derive(Clone, Copy)]
 pub enum Reply {
     Answered(u32, Answer),
     Bad(u32),

@@ -1,6 +1,5 @@
-// Carrying on the line that the tail holds. The prover covers no function over a struct that holds a
-// reference, so these are few and thin: each makes the piece or takes it apart. Others call
-// `carry_on`, whose parameters are plain.
+// Carrying on the line that the tail holds. `carry` takes a piece together with its position. Others
+// call `carry_on`, whose parameters are plain.
 ghost use Rattle.std.specs.Prelude.{◌≡◌, ◌≤◌, length};
 ghost use Rattle.state.specs.Holding.{Sound};
 ghost use Rattle.state.specs.Carry.{carry_on};
@@ -10,7 +9,7 @@ use crate::{Carried, Tail};
 use scan::line_end;
 
 // A piece, and the position up to which it has been read.
-#[derive(Drop)]
+#[derive(Clone, Copy)]
 struct Piece<'a> {
     bytes: &'a [u8],
     at: usize,

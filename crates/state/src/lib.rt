@@ -1,6 +1,8 @@
 // The reader's state, carried from one piece of input to the next: the unfinished line, the lines so
 // far and the tallies. Here are the state before the first piece, the test of cause 5, and how a piece
 // carries on the line that the tail holds. What a state holds is defined in specs/Holding.antt.
+#![tactic(auto)]
+
 mod broken;
 mod carry;
 mod held;
@@ -20,7 +22,7 @@ pub const OVER_LONG: u32 = LONGEST as u32 + 1;
 
 // The unfinished line: its bytes, zeros past their count, or zeros alone and the mark.
 #[repr(C)]
-#[derive(Drop)]
+#[derive(Clone, Copy)]
 pub struct Tail {
     pub bytes: [u8; LONGEST],
     pub count: u32,
@@ -28,7 +30,7 @@ pub struct Tail {
 
 // How many lines took each route, and how many were bad.
 #[repr(C)]
-#[derive(Drop)]
+#[derive(Clone, Copy)]
 pub struct Tallies {
     pub rule: u32,
     pub whole: u32,
@@ -40,7 +42,7 @@ pub struct Tallies {
 
 // What is carried from one piece to the next.
 #[repr(C)]
-#[derive(Drop)]
+#[derive(Clone, Copy)]
 pub struct State {
     pub tail: Tail,
     pub lines: u32,
@@ -49,7 +51,7 @@ pub struct State {
 
 // A line that was carried on: the tail that holds it, and the position where it stopped, at a line
 // feed or at the end of the piece.
-#[derive(Drop)]
+#[derive(Clone, Copy)]
 pub struct Carried {
     pub tail: Tail,
     pub end: usize,

@@ -51,9 +51,9 @@ pub fn places(n: u32) -> usize
 
 // Puts the last k digits of n in a base at the place `at`, and answers the place after them.
 pub fn put_digits(n: u32, base: u32, k: usize, out: &mut [u8], at: usize) -> usize
-    requires lt_base { 1 < base }
-    requires base_bound { base ≤ 16 }
-    requires k_in_bounds { at + k ≤ length out.old }
+    requires base_above_one { 1 < base }
+    requires base_most { base ≤ 16 }
+    requires room { at + k ≤ length out.old }
     ensures value { result ≡ at + k }
     ensures out_after { out.new ≡ put out.old at (Digits·digits base k n) }
 {

@@ -54,7 +54,7 @@ fn word(text: &[u8], from: usize) -> u64
 // once, the low half of the code and 9 more for a letter; then two and two, four and four are joined.
 pub fn hex_number(text: &[u8], from: usize) -> u32
     requires from_in_bounds { from + 8 ≤ length text.now }
-    requires text_value { all is_hex (eight_at from text.now) ≡ true }
+    requires all_digits { all is_hex (eight_at from text.now) ≡ true }
     ensures { result ≡ value 16 (eight_at from text.now) }
 {
     let w = word(text, from);

@@ -1,5 +1,7 @@
 // The line of totals that is printed after the answer lines, and the line of the end's number. They are
 // defined in specs/Totals.antt.
+#![tactic(auto)]
+
 ghost use Rattle.std.specs.Prelude.{◌≡◌, ◌++◌, ◌+◌, ◌≤◌, length};
 ghost use Rattle.text.specs.Bytes.{put};
 ghost use Rattle.totals.specs.Totals.{first_totals, middle_totals, last_totals, totals, end_line};

@@ -1,7 +1,7 @@
 -- `has_feed` meets its contract: as far as it has come, it has found what there is. Assumes nothing.
 use borrow.Author.Rules.{rules}
 use borrow.Author.Tests.{lt-ltb}
-use Prim.Native.Nat.{ℕ, ◌+◌, ◌-◌, ◌≤◌, ◌<◌}
+use Prim.Native.Nat.{ℕ, ◌+◌, ◌≤◌, ◌<◌}
 use native.Mathlib.Nat.{add-zero}
 use native.Mathlib.Omega.{arith}
 use mathlib.Core.Path.{◌≡◌, refl, sym, ap, ◌∙◌}

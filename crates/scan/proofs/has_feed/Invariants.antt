@@ -1,16 +1,9 @@
 -- `has_feed` meets its contract: as far as it has come, it has found what there is. Assumes nothing.
-use borrow.Author.Rules.{rules}
-use borrow.Author.Tests.{lt-ltb}
-use Prim.Native.Nat.{ℕ, ◌+◌, ◌-◌, ◌≤◌, ◌<◌}
-use native.Mathlib.Nat.{add-zero}
-use native.Mathlib.Omega.{arith}
-use mathlib.Core.Path.{◌≡◌, refl, sym, ap, ◌∙◌}
-use mathlib.Core.Bool.{Bool, true, false, ◌||◌, cond}
-use mathlib.Core.List.{List}
-use lib.Dec.{eqb, ltb}
-use lib.ListN.{length, take, drop, get_or}
-use Rattle.scan.specs.Complete.{line_feed, feeds}
-use Rattle.scan.proofs.Scanned.{feeds_more}
+use Prim.Native.Nat.{◌-◌, ◌≤◌}
+use mathlib.Core.Path.{◌≡◌}
+use lib.Dec.{ltb}
+use lib.ListN.{take, drop}
+use Rattle.scan.specs.Complete.{feeds}
 use Rattle.scan.proofs.has_feed.Given as goal
 
 abbrev pub invariant-loop-i : goal.invariant-loop-i

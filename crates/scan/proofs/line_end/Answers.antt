@@ -1,8 +1,8 @@
 -- `line_end` meets its contract: as far as it has come there is no line feed. Assumes nothing.
 use borrow.Author.Rules.{rules}
-use Prim.Native.Nat.{ℕ, ◌+◌, ◌-◌, ◌≤◌}
+use Prim.Native.Nat.{ℕ, ◌+◌}
 use mathlib.Core.Path.{◌≡◌, sym, ap}
-use lib.ListN.{length, drop, drop_of_length-le}
+use lib.ListN.{drop_of_length-le}
 use native.Mathlib.Omega.{arith}
 use Rattle.scan.specs.Complete.{line_end}
 use Rattle.scan.proofs.Scanned.{end_here, end_later}

@@ -1,12 +1,8 @@
 -- `line_feeds` meets its contract: those found and those to come are all. Assumes nothing.
-use borrow.Author.Rules.{rules}
-use Prim.Native.Nat.{ℕ, ◌+◌, ◌-◌, ◌≤◌}
-use mathlib.Core.Path.{◌≡◌, refl, ap}
-use mathlib.Core.Logic.{⊎_elim}
-use lib.ListN.{length, drop, drop_of_length-le}
-use native.Mathlib.Omega.{arith}
+use Prim.Native.Nat.{◌+◌, ◌-◌, ◌≤◌}
+use mathlib.Core.Path.{◌≡◌}
+use lib.ListN.{length, drop}
 use Rattle.scan.specs.Complete.{feeds}
-use Rattle.scan.proofs.Scanned.{feed_here, feed_not_here}
 use Rattle.scan.proofs.line_feeds.Given as goal
 
 abbrev pub invariant-loop-i : goal.invariant-loop-i

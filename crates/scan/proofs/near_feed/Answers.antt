@@ -1,5 +1,4 @@
 -- `near_feed` meets its contract: eight bytes with no line feed are passed over. Assumes nothing.
-use borrow.Author.Rules.{rules}
 use borrow.Author.Tests.{ltb-false}
 use Prim.Native.Nat.{ℕ, ◌+◌, ◌-◌, ◌≤◌}
 use native.Mathlib.Omega.{arith}

@@ -19,7 +19,7 @@ use Rattle.whole.proofs.Quotient.{power_fits, power_number, sign_of_pattern, quo
 use Rattle.whole.proofs.Squaring.{factor}
 use Rattle.whole.proofs.Tiny.{exponent, power_way}
 use Rattle.whole.proofs.whole.Goals as goal
-use Rattle.whole.proofs.whole.Goals.{After-squarings-acc, Start}
+use Rattle.whole.proofs.whole.Goals.{Start}
 
 -- a test counts as 0 or 1, and with it the exponent stays a u32
 one_at_most : (b : Bool) → bool_byte b ≤ 1
@@ -64,34 +64,30 @@ module _ (c : Start) where
   counted = ap₂ (λ (a : Float) (b : Bool). to_unsigned 32 a * (1 - bool_byte b)) size (tiny_of_pattern x x_fits)
 
 -- what was multiplied out, and what is narrowed
-module _ (c : After-squarings-acc) where
-  abbrev start : Start
-  start = c.before.before.before.before
-
-  abbrev acc : Float
-  acc = c.squarings-acc.result
-
+module _
+    (s : Start) (acc : Float)
+    (found :
+    acc ≡ power (x s ⊕ Special.one) (to_unsigned 32 (of_bits binary32 (to_bits binary32 (y s) % 2 ^ 31)) * (1 - bool_byte (leb (to_bits binary32 (x s) % 2 ^ 31) 0x3100_0000)))) where
   abbrev below : ℕ
-  below = to_bits binary32 (y start) / 2 ^ 31
+  below = to_bits binary32 (y s) / 2 ^ 31
 
-  power_is : acc ≡ power (x start ⊕ Special.one) (exponent (x start) (y start))
-  unfolding of_bits
-  power_is = c.squarings-acc.ensures ∙ ap (power (x start ⊕ Special.one)) (counted start)
+  power_is : acc ≡ power (x s ⊕ Special.one) (exponent (x s) (y s))
+  power_is = found ∙ ap (power (x s ⊕ Special.one)) (counted s)
 
   acc_fits : T (fits binary64 acc)
-  acc_fits = rw power_is (power_fits (exponent (x start) (y start)) (x start ⊕ Special.one) (add-fits binary64 (x start) Special.one))
+  acc_fits = rw power_is (power_fits (exponent (x s) (y s)) (x s ⊕ Special.one) (add-fits binary64 (x s) Special.one))
 
   acc_number : T (not (is_nan acc))
-  acc_number = rw power_is (power_number (exponent (x start) (y start)) (x start ⊕ Special.one) (sum_number start))
+  acc_number = rw power_is (power_number (exponent (x s) (y s)) (x s ⊕ Special.one) (sum_number s))
 
-  quotient_is : factor (1 - below) acc ⊘ factor below acc ≡ cond (lt (y start) Special.zero) (Special.one ⊘ acc) acc
-  quotient_is = quotient acc (lt (y start) Special.zero) below acc_fits (sign_of_pattern (x start) (y start) (y_fits start) start.requires)
+  quotient_is : factor (1 - below) acc ⊘ factor below acc ≡ cond (lt (y s) Special.zero) (Special.one ⊘ acc) acc
+  quotient_is = quotient acc (lt (y s) Special.zero) below acc_fits (sign_of_pattern (x s) (y s) (y_fits s) s.requires)
 
   narrowable : (p q : Float) → p ≡ factor (1 - below) acc → q ≡ factor below acc → T (not (is_nan (p ⊘ q)))
-  narrowable p q d e = rw (ap₂ ◌⊘◌ d e ∙ quotient_is) (quotient_number acc (lt (y start) Special.zero) acc_number)
+  narrowable p q d e = rw (ap₂ ◌⊘◌ d e ∙ quotient_is) (quotient_number acc (lt (y s) Special.zero) acc_number)
 
-  answer : (p q : Float) → p ≡ factor (1 - below) acc → q ≡ factor below acc → narrowed (p ⊘ q) ≡ spec.whole (x start) (y start)
-  answer p q d e = ap narrowed (ap₂ ◌⊘◌ d e ∙ quotient_is) ∙ power_way (x start) (y start) acc start.requires power_is
+  answer : (p q : Float) → p ≡ factor (1 - below) acc → q ≡ factor below acc → narrowed (p ⊘ q) ≡ spec.whole (x s) (y s)
+  answer p q d e = ap narrowed (ap₂ ◌⊘◌ d e ∙ quotient_is) ∙ power_way (x s) (y s) acc s.requires power_is
 
 pub float_to_bits-tiny : goal.float_to_bits-tiny
 unfolding of_bits
@@ -127,20 +123,20 @@ squarings-acc-requires c = sum_number (goal.at.squarings-acc-requires c).Start
 
 pub overflow_sub-below : goal.overflow_sub-below
 unfolding of_bits
-overflow_sub-below c = one_bit _ (to_bits-lt binary32 (y (start (goal.at.overflow_sub-below c).After-squarings-acc)) (y_fits (start (goal.at.overflow_sub-below c).After-squarings-acc)))
+overflow_sub-below c = one_bit _ (to_bits-lt binary32 (y (goal.at.overflow_sub-below c).Start) (y_fits (goal.at.overflow_sub-below c).Start))
 
 pub factor-requires : goal.factor-requires
 unfolding of_bits
-factor-requires c = acc_number (goal.at.factor-requires c).After-squarings-acc
+factor-requires c = acc_number (goal.at.factor-requires c).Start _ c.squarings-acc.ensures
 
 pub factor-requires-2 : goal.factor-requires-2
 unfolding of_bits
-factor-requires-2 c = acc_number (goal.at.factor-requires-2 c).After-squarings-acc
+factor-requires-2 c = acc_number (goal.at.factor-requires-2 c).Start _ c.squarings-acc.ensures
 
 pub narrow_branchless-requires : goal.narrow_branchless-requires
 unfolding of_bits
-narrow_branchless-requires c = narrowable (goal.at.narrow_branchless-requires c).After-squarings-acc _ _ c.factor.ensures c.factor-2.ensures
+narrow_branchless-requires c = narrowable (goal.at.narrow_branchless-requires c).Start _ c.squarings-acc.ensures _ _ c.factor.ensures c.factor-2.ensures
 
 pub returns : goal.returns
 unfolding of_bits
-returns c = c.narrow_branchless.ensures ∙ answer (goal.at.returns c).After-squarings-acc _ _ c.factor.ensures c.factor-2.ensures
+returns c = c.narrow_branchless.ensures ∙ answer (goal.at.returns c).Start _ c.squarings-acc.ensures _ _ c.factor.ensures c.factor-2.ensures

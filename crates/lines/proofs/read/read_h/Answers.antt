@@ -9,14 +9,14 @@ use native.Mathlib.Omega.{arith}
 use lib.ListN.{length, drop, length-drop, length-take}
 use Rattle.text.specs.Bytes.{all, eight_at}
 use Rattle.text.specs.Digits.{is_hex, value}
-use Rattle.lines.specs.Fields.{is_h, hAt}
+use Rattle.lines.specs.Fields.{is_h, h_at}
 use Rattle.lines.specs.declared.read.Field.TheVariants.{Read, Missing}
 use Rattle.text.proofs.Part.{long}
 use Rattle.lines.proofs.Reading.{there, not_there}
 use Rattle.lines.proofs.read.read_h.Goals as goal
 
 -- where there are not eight bytes, H is missing
-too_few : (l : List ℕ) (from : ℕ) → length l - from < 8 → Missing ≡ hAt from l
+too_few : (l : List ℕ) (from : ℕ) → length l - from < 8 → Missing ≡ h_at from l
 too_few l from h = not_there _ _ _ (rw (ne_eqb (length (eight_at from l)) 8 (λ e. omega (arith, e, length-take 8 (drop from l), length-drop from l))) refl)
 
 -- where there are, they are an H or not
@@ -27,17 +27,17 @@ module _ (l : List ℕ) (from : ℕ) (within : from ≤ length l) (enough : 8 �
   tested : (t : Bool) → all is_hex (eight_at from l) ≡ t → is_h (eight_at from l) ≡ t
   tested t e = rw (eq-eqb (length (eight_at from l)) 8 (long l from 8 eight), e) refl
 
-  read : (n : ℕ) → all is_hex (eight_at from l) ≡ true → n ≡ value 16 (eight_at from l) → Read n (from + 8) ≡ hAt from l
+  read : (n : ℕ) → all is_hex (eight_at from l) ≡ true → n ≡ value 16 (eight_at from l) → Read n (from + 8) ≡ h_at from l
   read n e h = there _ _ _ _ _ (record { holds = tested true e; number = h; place = refl })
 
-  missing : all is_hex (eight_at from l) ≡ false → Missing ≡ hAt from l
+  missing : all is_hex (eight_at from l) ≡ false → Missing ≡ h_at from l
   missing e = not_there _ _ _ (tested false e)
 
 pub returns-then-line-from-lt8 : goal.returns-then-line-from-lt8
 returns-then-line-from-lt8 c = too_few c.args.line.now c.args.from c.if-line-from-lt8.true
 
 pub hex_number-requires : goal.hex_number-requires
-hex_number-requires c = record { from_in_bounds = search rules; text_value = sym c.all_hex.ensures ∙ c.if-all_hex.true }
+hex_number-requires c = record { from_in_bounds = search rules; all_digits = sym c.all_hex.ensures ∙ c.if-all_hex.true }
 
 pub returns-then-all_hex : goal.returns-then-all_hex
 returns-then-all_hex c =

@@ -1,7 +1,6 @@
 -- `read_hex` meets its contract: what stands in the part from a place on stands in the line from there on. Assumes nothing.
-use borrow.Author.Rules.{rules}
 use borrow.Author.Tests.{eqb-true}
-use mathlib.Core.Path.{◌≡◌, refl, sym, ap, ◌∙◌}
+use mathlib.Core.Path.{◌≡◌, refl, ap, ◌∙◌}
 use mathlib.Core.Bool.{Bool, true, false, ◌&&◌}
 use mathlib.Core.List.{List}
 use Prim.Native.Nat.{ℕ, ◌+◌, ◌-◌, ◌≤◌, min}
@@ -55,13 +54,13 @@ module _ (l : List ℕ) (at key : ℕ) where
       omega arith
 
 pub returns-in_default : goal.returns-in_default
-returns-in_default c = none c.args.line.now c.args.at c.args.key (sym c.enum_told-1.is ∙ c.read_field.ensures)
+returns-in_default c = none c.args.line.now c.args.at c.args.key c.in_default.ensures
 
 pub overflow_add-result : goal.overflow_add-result
 overflow_add-result c =
-    let w : c.args.at + c.n-1.end ≤ length c.args.line.now =
-    within c.args.line.now c.args.at c.args.key c.requires.at_in_bounds c.n-1.n c.n-1.end (sym c.n-1.is ∙ c.read_field.ensures) in
+    let w : c.args.at + c.in-Read.end ≤ length c.args.line.now =
+    within c.args.line.now c.args.at c.args.key c.requires.at_in_bounds c.in-Read.n c.in-Read.end c.in-Read.ensures in
     omega (arith, c.well_formed.0.0)
 
 pub returns : goal.returns
-returns c = read c.args.line.now c.args.at c.args.key _ _ (sym c.n-1.is ∙ c.read_field.ensures)
+returns c = read c.args.line.now c.args.at c.args.key _ _ c.in-Read.ensures

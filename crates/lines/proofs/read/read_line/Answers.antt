@@ -11,11 +11,11 @@ use lib.ListN.{length, get_or, drop, length-drop}
 use lib.Seq.{drop-drop, get_or-drop}
 use Rattle.text.specs.Digits.{value}
 use Rattle.text.specs.Bytes.{begins}
-use Rattle.lines.specs.Format.{longest, id_key, is_d, xKey, yKey, id_digits, has_id, after_id, hex_digits, has_hex, has_x, after_x, has_y, read_line}
+use Rattle.lines.specs.Format.{longest, id_key, is_d, x_key, y_key, id_digits, has_id, after_id, hex_digits, has_hex, has_x, after_x, has_y, read_line}
 use Rattle.lines.specs.declared.Line.TheVariants.{Pair, TooLong, NoId, NoX, NoY}
-use Rattle.lines.proofs.Reading.{Found, found, missing, failed, held, inside}
+use Rattle.lines.proofs.Reading.{Found, found, missing, inside}
 use Rattle.lines.proofs.read.read_line.Goals as goal
-use Rattle.lines.proofs.read.read_line.Goals.{Else-not-stands, In-Read-2, In-Read-read_hex-2-2, In-Read-read_hex-3}
+use Rattle.lines.proofs.read.read_line.Goals.{Else-not-stands, In-Read, In-Read-read_hex, In-Read-read_hex-2}
 
 too_long : (l : List ℕ) → longest < length l → TooLong ≡ read_line l
 unfolding read_line
@@ -39,7 +39,7 @@ module _ (l : List ℕ) (short : length l ≤ longest) where
     unfolding after_id
     after_id_lem = rw i.place refl
 
-    x_tested : has_x (after_id l) ≡ (has_hex xKey (drop a l) && eqb (get_or l (a + 10) 0) 32)
+    x_tested : has_x (after_id l) ≡ (has_hex x_key (drop a l) && eqb (get_or l (a + 10) 0) 32)
     unfolding has_x
     x_tested = rw (after_id_lem, get_or-drop a l 10 0) refl
 
@@ -47,10 +47,10 @@ module _ (l : List ℕ) (short : length l ≤ longest) where
     unfolding read_line
     no_x h = rw (le-ltb longest (length l) short, i.holds, h) refl
 
-    x_missing : has_hex xKey (drop a l) ≡ false → NoX ≡ read_line l
+    x_missing : has_hex x_key (drop a l) ≡ false → NoX ≡ read_line l
     x_missing h = no_x (x_tested ∙ rw h refl)
 
-    module _ (x b : ℕ) (f : Hex xKey l a x b) where
+    module _ (x b : ℕ) (f : Hex x_key l a x b) where
       no_space : eqb (get_or l b 0) 32 ≡ false → NoX ≡ read_line l
       no_space h = no_x (x_tested ∙ rw (f.holds, ← f.place, h) refl)
 
@@ -58,7 +58,7 @@ module _ (l : List ℕ) (short : length l ≤ longest) where
 record Half (l : List ℕ) (d a x b : ℕ) : Type 0 where
   short : length l ≤ longest
   id : Id l d a
-  field : Hex xKey l a x b
+  field : Hex x_key l a x b
   space : eqb (get_or l b 0) 32 ≡ true
 
 module _ (l : List ℕ) (d a x b : ℕ) (r : Half l d a x b) where
@@ -73,7 +73,7 @@ module _ (l : List ℕ) (d a x b : ℕ) (r : Half l d a x b) where
       next : a + 11 ≡ b + 1
       next = omega (arith, r.field.place)
 
-  y_tested : has_y (after_x (after_id l)) ≡ (has_hex yKey (drop (b + 1) l) && eqb (length (drop (b + 1) l)) 10)
+  y_tested : has_y (after_x (after_id l)) ≡ (has_hex y_key (drop (b + 1) l) && eqb (length (drop (b + 1) l)) 10)
   unfolding has_y
   y_tested = rw after_x_lem refl
 
@@ -81,10 +81,10 @@ module _ (l : List ℕ) (d a x b : ℕ) (r : Half l d a x b) where
   unfolding read_line
   no_y h = rw (le-ltb longest (length l) r.short, r.id.holds, has_x_lem, h) refl
 
-  y_missing : has_hex yKey (drop (b + 1) l) ≡ false → NoY ≡ read_line l
+  y_missing : has_hex y_key (drop (b + 1) l) ≡ false → NoY ≡ read_line l
   y_missing h = no_y (y_tested ∙ rw h refl)
 
-  module _ (y e : ℕ) (g : Hex yKey l (b + 1) y e) where
+  module _ (y e : ℕ) (g : Hex y_key l (b + 1) y e) where
     more : (e ≡ length l → ⊥) → NoY ≡ read_line l
     more h = no_y (y_tested ∙ rw (g.holds, ne_eqb (length (drop (b + 1) l)) 10 (λ k. h (omega (arith, k, g.place, length-drop (b + 1) l)))) refl)
 
@@ -110,23 +110,23 @@ module _ (l : List ℕ) (d a x b : ℕ) (r : Half l d a x b) where
         ten = eq-eqb (length (drop (b + 1) l)) 10 (omega (arith, h, g.place, length-drop (b + 1) l))
 
 -- each field, as it was read
-the_id : (c : In-Read-2) → Id c.args.line.now c.id-1.id c.id-1.from_x
-the_id c = found _ _ _ _ _ (sym c.id-1.is ∙ c.read_id.ensures)
+the_id : (c : In-Read) → Id c.args.line.now c.in-Read.id c.in-Read.from_x
+the_id c = found _ _ _ _ _ c.in-Read.ensures
 
-the_x : (c : In-Read-read_hex-3)
-    → Hex xKey c.args.line.now c.id-1.from_x
-    c.x-1.x c.x-1.after_x
-the_x c = found _ _ _ _ _ (sym c.x-1.is ∙ c.read_hex.ensures)
+the_x : (c : In-Read-read_hex) → Hex x_key c.args.line.now c.in-Read.from_x c.in-Read-read_hex.x c.in-Read-read_hex.after_x
+the_x c = found _ _ _ _ _ c.in-Read-read_hex.ensures
 
-half : (c : Else-not-stands)
-    → Half c.args.line.now c.id-1.id c.id-1.from_x c.x-1.x c.x-1.after_x
+half : (c : Else-not-stands) → Half c.args.line.now c.in-Read.id c.in-Read.from_x c.in-Read-read_hex.x c.in-Read-read_hex.after_x
 half c =
-    record { short = c.if-line-gt-LONGEST.false; id = the_id i; field = the_x x; space = held _ _ c.stands.ensures c.if-not-stands.false }
+    record {
+      short = c.if-line-gt-LONGEST.false;
+      id = found _ _ _ _ _ c.in-Read.ensures;
+      field = found _ _ _ _ _ c.in-Read-read_hex.ensures;
+      space = sym c.stands.ensures ∙ c.if-not-stands.false;
+    }
 
-the_y : (c : In-Read-read_hex-2-2)
-    → Hex yKey c.args.line.now
-    (c.x-1.after_x + 1) c.y-1.y c.y-1.end
-the_y c = found _ _ _ _ _ (sym c.y-1.is ∙ c.read_hex-2.ensures)
+the_y : (c : In-Read-read_hex-2) → Hex y_key c.args.line.now (c.in-Read-read_hex.after_x + 1) c.in-Read-read_hex-2.y c.in-Read-read_hex-2.end
+the_y c = found _ _ _ _ _ c.in-Read-read_hex-2.ensures
 
 -- an id that was read ends within the line, and so does an x with its space
 id_within : (l : List ℕ) (d a : ℕ) → Id l d a → a ≤ length l
@@ -144,28 +144,28 @@ pub returns-then-line-gt-LONGEST : goal.returns-then-line-gt-LONGEST
 returns-then-line-gt-LONGEST c = too_long _ c.if-line-gt-LONGEST.true
 
 pub returns-in_default : goal.returns-in_default
-returns-in_default c = no_id _ c.if-line-gt-LONGEST.false (missing _ _ _ (sym c.enum_told-1.is ∙ c.read_id.ensures))
+returns-in_default c = no_id _ c.if-line-gt-LONGEST.false (missing _ _ _ (c.in_default.ensures))
 
 pub returns-in_default-read_hex : goal.returns-in_default-read_hex
-returns-in_default-read_hex c = x_missing _ c.if-line-gt-LONGEST.false _ _ (the_id (goal.at.returns-in_default-read_hex c).In-Read-2) (missing _ _ _ (sym c.enum_told-in_default-read_hex-1.is ∙ c.read_hex.ensures))
+returns-in_default-read_hex c = x_missing _ c.if-line-gt-LONGEST.false _ _ (the_id (goal.at.returns-in_default-read_hex c).In-Read) (missing _ _ _ (c.in_default-read_hex.ensures))
 
 pub returns-then-not-stands : goal.returns-then-not-stands
-returns-then-not-stands c = no_space _ c.if-line-gt-LONGEST.false _ _ (the_id (goal.at.returns-then-not-stands c).In-Read-2) _ _ (the_x (goal.at.returns-then-not-stands c).In-Read-read_hex-3) (failed _ _ c.stands.ensures c.if-not-stands.true)
+returns-then-not-stands c = no_space _ c.if-line-gt-LONGEST.false _ _ (the_id (goal.at.returns-then-not-stands c).In-Read) _ _ (the_x (goal.at.returns-then-not-stands c).In-Read-read_hex) (sym c.stands.ensures ∙ c.if-not-stands.true)
 
 pub overflow_add-after_x : goal.overflow_add-after_x
-overflow_add-after_x c = omega (arith, c.well_formed.0.0, inside c.args.line.now c.x-1.after_x 32 (lit< tt) (half (goal.at.overflow_add-after_x c).Else-not-stands).space)
+overflow_add-after_x c = omega (arith, c.well_formed.0.0, inside c.args.line.now c.in-Read-read_hex.after_x 32 (lit< tt) (half (goal.at.overflow_add-after_x c).Else-not-stands).space)
 
 pub read_hex-requires-2 : goal.read_hex-requires-2
-read_hex-requires-2 c = record { key_nonzero = search rules; at_in_bounds = omega (arith, inside c.args.line.now c.x-1.after_x 32 (lit< tt) (half (goal.at.read_hex-requires-2 c).Else-not-stands).space) }
+read_hex-requires-2 c = record { key_nonzero = search rules; at_in_bounds = omega (arith, inside c.args.line.now c.in-Read-read_hex.after_x 32 (lit< tt) (half (goal.at.read_hex-requires-2 c).Else-not-stands).space) }
 
 pub returns-in_default-read_hex-2 : goal.returns-in_default-read_hex-2
-returns-in_default-read_hex-2 c = y_missing _ _ _ _ _ (half (goal.at.returns-in_default-read_hex-2 c).Else-not-stands) (missing _ _ _ (sym c.enum_told-in_default-read_hex-2-1.is ∙ c.read_hex-2.ensures))
+returns-in_default-read_hex-2 c = y_missing _ _ _ _ _ (half (goal.at.returns-in_default-read_hex-2 c).Else-not-stands) (missing _ _ _ (c.in_default-read_hex-2.ensures))
 
 pub returns-then-end-line : goal.returns-then-end-line
-returns-then-end-line c = more _ _ _ _ _ (half (goal.at.returns-then-end-line c).Else-not-stands) _ _ (the_y (goal.at.returns-then-end-line c).In-Read-read_hex-2-2) c.if-end-line.true
+returns-then-end-line c = more _ _ _ _ _ (half (goal.at.returns-then-end-line c).Else-not-stands) _ _ (the_y (goal.at.returns-then-end-line c).In-Read-read_hex-2) c.if-end-line.true
 
 pub returns : goal.returns
-returns c = pair _ _ _ _ _ (half (goal.at.returns c).Else-not-stands) _ _ (the_y (goal.at.returns c).In-Read-read_hex-2-2) c.if-end-line.false
+returns c = pair _ _ _ _ _ (half (goal.at.returns c).Else-not-stands) _ _ (the_y (goal.at.returns c).In-Read-read_hex-2) c.if-end-line.false
 
 pub read_hex-requires : goal.read_hex-requires
-read_hex-requires c = record { key_nonzero = search rules; at_in_bounds = id_within _ _ _ (the_id (goal.at.read_hex-requires c).In-Read-2) }
+read_hex-requires c = record { key_nonzero = search rules; at_in_bounds = id_within _ _ _ (the_id (goal.at.read_hex-requires c).In-Read) }

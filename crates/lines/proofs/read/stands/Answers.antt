@@ -1,5 +1,4 @@
 -- `stands` meets its contract: past the end stands no byte, which the definition reads as 0. Assumes nothing.
-use borrow.Author.Rules.{rules}
 use borrow.Author.Tests.{ne_eqb}
 use mathlib.Core.Path.{◌≡◌, sym}
 use mathlib.Core.Bool.{false}

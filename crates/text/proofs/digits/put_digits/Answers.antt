@@ -40,7 +40,7 @@ loop-i-init c = (omega arith, refl, refl)
 
 pub glyph-requires : goal.glyph-requires
 glyph-requires c =
-    let p = c.args in below c.loop-i.rest p.base c.requires.lt_base c.requires.base_bound
+    let p = c.args in below c.loop-i.rest p.base c.requires.base_above_one c.requires.base_most
   where
     below : (n base : ℕ) → 1 < base → base ≤ 16 → n % base < 16
     below n base h g = lt_of_lt_of_le (mod-lt n (omega arith)) g

@@ -35,10 +35,10 @@ less a b h = omega arith
 
 -- the values of the digits have room, and the number is what they say
 small : (c : After-word-w) → digits_of c.word-w.result ≤ 0x0f0f0f0f0f0f0f0f
-small c = digits_small _ _ c.word-w.ensures (long _ _ 8 c.requires.from_in_bounds) c.requires.text_value
+small c = digits_small _ _ c.word-w.ensures (long _ _ 8 c.requires.from_in_bounds) c.requires.all_digits
 
 pub returns : goal.returns
-returns c = number_of _ _ c.word-w.ensures (long _ _ 8 c.requires.from_in_bounds) c.requires.text_value
+returns c = number_of _ _ c.word-w.ensures (long _ _ 8 c.requires.from_in_bounds) c.requires.all_digits
 
 pub overflow_mul-digits : goal.overflow_mul-digits
 overflow_mul-digits c = fit _ (letters_fit (bit_and c.word-w.result 0x4040404040404040) (and_le_r c.word-w.result 0x4040404040404040))
@@ -70,4 +70,4 @@ overflow_add-result c = let v = pairs_of (digits_of c.word-w.result) in fit _ (j
 
 -- eight digits are a u32
 pub overflow_cast-result : goal.overflow_cast-result
-overflow_cast-result c = record { fits = subst (λ (n : ℕ). n < 2 ^ 32) (sym (returns c)) (value_below sixteen 8 _ (long _ _ 8 c.requires.from_in_bounds) c.requires.text_value) }
+overflow_cast-result c = record { fits = subst (λ (n : ℕ). n < 2 ^ 32) (sym (returns c)) (value_below sixteen 8 _ (long _ _ 8 c.requires.from_in_bounds) c.requires.all_digits) }

@@ -24,7 +24,7 @@ places_room : (n k at m : ℕ) → k ≡ places 9 n → at + length (decimal n) 
 places_room n k at m e h = omega (arith, length_decimal n)
 
 pub put_digits-requires : goal.put_digits-requires
-put_digits-requires c = record { lt_base = lit< tt; base_bound = lit≤ tt; k_in_bounds = places_room _ _ _ _ c.places-k.ensures (room (after_text (goal.at.put_digits-requires c).After-put_bytes-digits) (decimal _) c.requires) }
+put_digits-requires c = record { base_above_one = lit< tt; base_most = lit≤ tt; room = places_room _ _ _ _ c.places-k.ensures (room (after_text (goal.at.put_digits-requires c).After-put_bytes-digits) (decimal _) c.requires) }
 
 -- digits of as many places as a number has are the number in decimal
 wrote_decimal : (before : List ℕ) (at n k : ℕ) {after : List ℕ} {end : ℕ} → k ≡ places 9 n → (end ≡ at + k) × (after ≡ put before at (digits 10 k n))
