@@ -88,21 +88,19 @@ fn not_read(rt: &impl Eprint, error: io::Error) -> Next
     Next::Nothing
 }
 
-// Writes text to standard output; `next` comes after it, if it could be written.
+// Writes text to standard output; `next` comes after it, if it could be written. Where nobody reads the
+// output any more, nothing is told.
 fn print(rt: &(impl Print + Eprint), text: &[u8], next: Next) -> Next
     ensures { OrNothing next result }
 {
-    match rt.write_all(text) {
-        Ok(()) => next,
-        Err(error) => {
-            fail(
-                rt,
-                "fade: standard output cannot be written; it is not whole",
-                error,
-            );
-            Next::Nothing
-        }
+    let Err(error) = rt.write_all(text) else {
+        return next;
+    };
+    if error.kind() != ErrorKind::BrokenPipe {
+        let what = "fade: standard output cannot be written; it is not whole";
+        fail(rt, what, error);
     }
+    Next::Nothing
 }
 
 // Prints the answers to a piece that was accepted; 6 ends the reading. 5 and 7 do not come.
