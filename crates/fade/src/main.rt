@@ -49,9 +49,10 @@ struct Text {
     count: usize,
 }
 
-// Stands where the program never comes: each call is proved to be one that is not made.
-fn never() -> Next
-    requires { ⊥ }
+// Stands where a refusal would come that never does: 0 is the number of none, so a call with any other
+// is proved to be one that is not made.
+fn never(number: u32) -> Next
+    requires { number ≡ 0 }
 {
     Next::Nothing
 }
@@ -113,8 +114,8 @@ fn print_answers(rt: &(impl Print + Eprint), verdict: Verdict, out: &[u8]) -> Ne
     match verdict {
         Verdict::Accepted(n) => print(rt, &out[..n], Next::Read),
         Verdict::TooManyLines => Next::Totals(batch::feed_number(verdict)),
-        Verdict::Broken => never(),
-        Verdict::NoRoom => never(),
+        Verdict::Broken => never(5),
+        Verdict::NoRoom => never(7),
     }
 }
 
@@ -127,7 +128,7 @@ fn at_end(state: State) -> Next
     match closed {
         Closed::Finished => Next::Totals(batch::close_number(closed)),
         Closed::Unfinished => Next::Totals(batch::close_number(closed)),
-        Closed::BrokenState => never(),
+        Closed::BrokenState => never(5),
     }
 }
 
