@@ -53,6 +53,7 @@ fn replay(rt: &impl Print, nx: u32, ny: u32) -> io::Result<()> {
     }
 }
 
+// Reads up to the end; a last line that is cut off is left out.
 fn main(rt: HostRuntime) -> io::Result<()> {
     let mut input = rt.stdin();
     for _ in 0..LINES {
