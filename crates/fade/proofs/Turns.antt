@@ -1,6 +1,5 @@
 -- A list of calls of feed that grows turn by turn, and the run that it comes to. Assumes nothing.
 use Prim.Native.Nat.{ℕ, zero, suc}
-use native.Mathlib.Omega.{arith}
 use mathlib.Core.Path.{◌≡◌, refl, sym, ap, ◌∙◌}
 use mathlib.Core.Bool.{true, false}
 use mathlib.Core.Logic.{◌⊎◌, inl, inr, ⊎_elim}
@@ -51,13 +50,13 @@ begun s e = record { calls = []; made = tt; state_is = sym e; all_accepted = tt 
 -- what comes next is one thing only
 module _ (x : Next) where
   not_both : (n : ℕ) → x ≡ Read → x ≡ Totals n → ⊥
-  not_both n e f = let z : ◌≡◌ {A = ℕ} 0 1 = cc in omega arith
+  not_both n e f = cc
 
   not_nothing : (n : ℕ) → x ≡ Nothing → x ≡ Totals n → ⊥
-  not_nothing n e f = let z : ◌≡◌ {A = ℕ} 0 1 = cc in omega arith
+  not_nothing n e f = cc
 
   not_read : x ≡ Nothing → x ≡ Read → ⊥
-  not_read e f = let z : ◌≡◌ {A = ℕ} 0 1 = cc in omega arith
+  not_read e f = cc
 
   same_number : (m n : ℕ) → x ≡ Totals m → x ≡ Totals n → n ≡ m
   same_number m n e f = cc

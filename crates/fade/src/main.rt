@@ -49,9 +49,10 @@ struct Text {
     count: usize,
 }
 
-// Stands where the program never comes: each call is proved to be one that is not made.
-fn never() -> Next
-    requires { ⊥ }
+// Stands where a refusal would come that never does: 0 is the number of none, so a call with any other
+// is proved to be one that is not made.
+fn never(number: u32) -> Next
+    requires { number ≡ 0 }
 {
     Next::Nothing
 }
@@ -88,21 +89,19 @@ fn not_read(rt: &impl Eprint, error: io::Error) -> Next
     Next::Nothing
 }
 
-// Writes text to standard output; `next` comes after it, if it could be written.
+// Writes text to standard output; `next` comes after it, if it could be written. Where nobody reads the
+// output any more, nothing is told.
 fn print(rt: &(impl Print + Eprint), text: &[u8], next: Next) -> Next
     ensures { OrNothing next result }
 {
-    match rt.write_all(text) {
-        Ok(()) => next,
-        Err(error) => {
-            fail(
-                rt,
-                "fade: standard output cannot be written; it is not whole",
-                error,
-            );
-            Next::Nothing
-        }
+    let Err(error) = rt.write_all(text) else {
+        return next;
+    };
+    if error.kind() != ErrorKind::BrokenPipe {
+        let what = "fade: standard output cannot be written; it is not whole";
+        fail(rt, what, error);
     }
+    Next::Nothing
 }
 
 // Prints the answers to a piece that was accepted; 6 ends the reading. 5 and 7 do not come.
@@ -115,8 +114,8 @@ fn print_answers(rt: &(impl Print + Eprint), verdict: Verdict, out: &[u8]) -> Ne
     match verdict {
         Verdict::Accepted(n) => print(rt, &out[..n], Next::Read),
         Verdict::TooManyLines => Next::Totals(batch::feed_number(verdict)),
-        Verdict::Broken => never(),
-        Verdict::NoRoom => never(),
+        Verdict::Broken => never(5),
+        Verdict::NoRoom => never(7),
     }
 }
 
@@ -129,7 +128,7 @@ fn at_end(state: State) -> Next
     match closed {
         Closed::Finished => Next::Totals(batch::close_number(closed)),
         Closed::Unfinished => Next::Totals(batch::close_number(closed)),
-        Closed::BrokenState => never(),
+        Closed::BrokenState => never(5),
     }
 }
 
