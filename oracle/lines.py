@@ -82,7 +82,7 @@ def main():
     for program in programs:
         print(f"{program}, all by a tenth: ratio {ratios(whole[program], tenth[program])}")
     if FADE not in programs:
-        print(f"{FADE} is not there: rt run in crates/fade makes it")
+        print(f"{FADE} is not there: rt run </dev/null in crates/fade makes it")
         return 0
     print(f"fade by the Rust: ratio {ratios(whole[FADE], whole[RUST])}; the same bytes printed")
     return 0

@@ -1,7 +1,8 @@
 // The batch program: answers the lines of standard input as they come, and prints the totals at its
 // end. It reads pieces of at most 8,192 bytes and prints the answers to each with one write, so it
 // takes no more memory for a longer input. Where it cannot read or write, it says so on standard
-// error and prints no totals. What it does between reading and printing is defined in specs/Run.antt.
+// error, but where nobody reads its output, and prints no totals. What it does between reading and
+// printing is defined in specs/Run.antt.
 #![tactic(auto)]
 
 ghost use Rattle.std.specs.Prelude.{◌≡◌, false, ◌+◌, ◌*◌, ◌≤◌, ◌↔◌, ℕ, Result, length, take};

@@ -32,7 +32,7 @@ next_log2 v z i =
     let t = from_exact_add v.hi (p i) in
     quick_mult (record { lo = v.lo ⊕ (t.lo ⊕ p (i + 1)); hi = t.hi }) z
 
--- the loop runs over entries 11 to 16, and starts with entry 17. So only entry 16 counts (`higher_is` in proofs/slow/higher/Proof.antt).
+-- the loop runs over entries 11 to 16, and starts with entry 17. So only entry 16 counts (`higher_is` in proofs/higher/Answers.antt).
 unfoldable pub higher : Float → Float
 higher z = dropping_h z (take 6 (drop 11 log2p1_log2_poly)) (p 17)
 
