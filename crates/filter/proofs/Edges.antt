@@ -14,7 +14,6 @@ use Rattle.special.specs.Special as Special
 use Rattle.special.proofs.Rule.{finite_number}
 use Rattle.fast_path.specs.Scaling.{scaled, Within}
 use Rattle.fast_path.specs.Fast.{exp2_reduced, exp2_fast}
-use Rattle.fast_path.specs.declared.Exp2.TheVariants.{Failed}
 use Rattle.fast_path.proofs.Index.{within_of_size}
 use Rattle.fast_path.proofs.Lifted.{lifted, lifted_sum}
 use Rattle.fast_path.proofs.Midpoints.{below_normal}
@@ -286,7 +285,7 @@ module _ (t : Float) (s : Subnormal t) where
       go : (s w : ℕ) → w ≡ s * 2 ^ 53 → 150 * 2 ^ 53 * s ≡ 150 * w
       go s w e = omega arith
 
-  fails : exp2_fast t ≡ Failed
+  fails : exp2_fast t ≡ None
   unfolding exp2_fast k
   fails = sym (below_normal (scaled (exp2_reduced (t ⊖ nearest_whole t)) (to_signed 63 (nearest_whole t))) (scaled 0x3d61d00000000000 (to_signed 63 (nearest_whole t))) (scaled_low (exp2_reduced (t ⊖ nearest_whole t)) (to_signed 63 (nearest_whole t)) unscaled within (cast_low 127 (nearest_whole t) (lit≤ tt) (lit≤ tt) k_bound.number k_low)))
     where
