@@ -1,6 +1,6 @@
 -- What the plain t' settles at the edges: at most -151, t is at the lower edge (`low_edge_lem`); at least 129, at the upper (`high_edge_lem`); 0, at that of 1 (`at_one`); and from -149.5 to -128 the fast
 -- path fails its tests, since its value is below the normal f32s (`below_normals`). Assumes nothing.
-use Rattle.std.proofs.Common.{◌≡◌, ℕ, zero, suc, ◌+◌, ◌-◌, ◌*◌, ◌/◌, ◌%◌, ◌^◌, ◌<◌, ◌≤◌, min, Bool, true, false, cond, not, ◌&&◌, leb, ◌⊎◌, ℤ, pos, negsuc, neg_ℤ, sym, refl, ap, ◌∙◌, subst, inl, inr, true≢false, le_trans, le_of_eq, mul-le-mul_right, mul_assoc, mul_comm, mul-pos, le-div_iff_mul-le, zero-add, mul_right_comm, le_of_mul-le-mul_right, arith, lit<, lit≤, le-leb}
+use Rattle.std.proofs.Common.{◌≡◌, ℕ, zero, suc, ◌+◌, ◌-◌, ◌*◌, ◌/◌, ◌%◌, ◌^◌, ◌<◌, ◌≤◌, min, Bool, true, false, cond, not, ◌&&◌, leb, ◌⊎◌, ℤ, pos, negsuc, neg_ℤ, sym, refl, ap, ◌∙◌, subst, inl, inr, true≢false, le_trans, le_of_eq, mul-le-mul_right, mul_assoc, mul_comm, mul-pos, le-div_iff_mul-le, zero-add, mul_right_comm, le_of_mul-le-mul_right, arith, lit<, lit≤, le-leb, None}
 use borrow.Author.Tests.{lt-leb}
 use lib.Ieee.{Float, nan, inf, fin, binary64, up, down, size, fits, to_bits, to_signed, le, lt, eq, is_nan}
 use lib.Ieee.Fits.{down_pos}

@@ -1,6 +1,6 @@
 -- For a t' of at most 2^-14 in size: k is 0 for t and for t', the index is 16, so that neither changes anything, and the patterns of the two powers are 64 from each other at most (`patterns_near`). Where the plain one is
 -- at most 2^11 from a midpoint of two f32s, the fast path's rounding test fails (`near_right`). Assumes nothing.
-use Rattle.std.proofs.Common.{◌≡◌, ℕ, ◌+◌, ◌-◌, ◌*◌, ◌%◌, ◌^◌, ◌<◌, ◌≤◌, Bool, true, false, cond, ◌&&◌, leb, ℤ, pos, sym, refl, ap, ◌∙◌, subst, ap₂, arith, lit<, leb-true}
+use Rattle.std.proofs.Common.{◌≡◌, ℕ, ◌+◌, ◌-◌, ◌*◌, ◌%◌, ◌^◌, ◌<◌, ◌≤◌, Bool, true, false, cond, ◌&&◌, leb, ℤ, pos, sym, refl, ap, ◌∙◌, subst, ap₂, arith, lit<, leb-true, Some, None}
 use lib.Ieee.{Float, fin, binary64, round, fits, of_bits, to_bits, to_signed, le}
 use Rattle.floats.specs.Operations.{◌⊖◌, ◌⊗◌, f64}
 use Rattle.floats.specs.Narrowing.{nearest_whole}

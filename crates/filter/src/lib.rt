@@ -39,6 +39,7 @@ pub enum Found {
 // Slow, where the scaled pattern w is at most 2^11 from a midpoint of two f32s, at which the last 29
 // digits are 2^28, and |t| is at most 2^-14. There the fast path's pattern is at most 64 from w, and its
 // bound on the error is 2280 last places or more, so that the midpoint is between its two bounds.
+#[tactic(auto, using(floats::proofs::Laws::Nan::number_of_below), unfolding(crate::specs::Plain::near_midpoint))]
 fn near_midpoint(t: f64, w: u64) -> Option<Found>
     requires { w < 1148 * 2 ^ 52 }
     ensures { result ≡ spec.near_midpoint t w }
@@ -154,6 +155,7 @@ fn high_found(t: f64) -> Option<Found>
 }
 
 // For |t| below 2^-300.
+#[tactic(auto, unfolding(crate::specs::Plain::tiny_found))]
 fn tiny_found(t: f64) -> Option<Found>
     ensures { result ≡ spec.tiny_found t }
 {

@@ -1,4 +1,5 @@
 -- `high_found` meets its contract: its test is the definition's. Assumes nothing.
+use Rattle.std.proofs.Common.{Some, None}
 use lib.Ieee.{of_bits}
 use Rattle.floats.proofs.Laws.Tests.{first, second}
 use Rattle.filter.specs.declared.Found.TheVariants.{High}

@@ -1,5 +1,5 @@
 -- `in_two_steps` meets its contract: for t from -124 to 124 the index is inside the table, k can be cast, and the scaled pattern is that of a normal f32's value. Assumes nothing.
-use Rattle.std.proofs.Common.{◌≡◌, ℕ, ◌*◌, ◌^◌, ◌<◌, ◌≤◌, Bool, true, false, T, ℤ, sym, ap, ◌∙◌, subst, lt_of_lt_of_le, not-le_of_lt, lit<, w64, to_z, of_z}
+use Rattle.std.proofs.Common.{◌≡◌, ℕ, ◌*◌, ◌^◌, ◌<◌, ◌≤◌, Bool, true, false, T, ℤ, sym, ap, ◌∙◌, subst, lt_of_lt_of_le, not-le_of_lt, lit<, w64, to_z, of_z, None}
 use lib.Ieee.{Float, binary64, to_bits, of_bits, to_signed, in_signed}
 use denote.Floats.{passes}
 use Rattle.floats.specs.Operations.{◌⊕◌, ◌⊖◌, ◌⊗◌}

@@ -1,5 +1,5 @@
 -- `low_found` meets its contract: its tests are the definition's. Assumes nothing.
-use Rattle.std.proofs.Common.{◌∙◌}
+use Rattle.std.proofs.Common.{◌∙◌, Some, None}
 use lib.Ieee.{of_bits, neg}
 use Rattle.floats.proofs.Laws.Tests.{first, second}
 use Rattle.filter.specs.declared.Found.TheVariants.{Slow, Low}

@@ -1,5 +1,5 @@
 -- `middle_found` meets its contract: in one step it finds what the definition finds in two, and else it leaves it to those. Assumes nothing.
-use Rattle.std.proofs.Common.{◌≡◌, ℕ, ◌*◌, ◌%◌, ◌^◌, ◌<◌, ◌≤◌, Bool, true, false, not, ◌&&◌, T, ltb, sym, ap, ◌∙◌, subst, true≢false, lt_of_lt_of_le, lit<, ltb→lt}
+use Rattle.std.proofs.Common.{◌≡◌, ℕ, ◌*◌, ◌%◌, ◌^◌, ◌<◌, ◌≤◌, Bool, true, false, not, ◌&&◌, T, ltb, sym, ap, ◌∙◌, subst, true≢false, lt_of_lt_of_le, lit<, ltb→lt, None}
 use lib.Ieee.{Float, nan, inf, fin, is_nan, of_bits, to_signed}
 use lib.Ieee.Scale.{finite}
 use denote.Floats.{passes}
