@@ -10,8 +10,8 @@ use lib.Dec.{lit<}
 use Rattle.text.proofs.Part.{long}
 use Rattle.text.proofs.Numerals.{sixteen, value_below}
 use Rattle.text.proofs.Words.{digits_of, pairs_of, fours_of, digits_small, number_of}
-use Rattle.text.proofs.hex.hex_number.Goals as goal
-use Rattle.text.proofs.hex.hex_number.Goals.{After-word-w}
+use Rattle.text.proofs.hex_at.hex_number.Goals as goal
+use Rattle.text.proofs.hex_at.hex_number.Goals.{After-word-w}
 
 -- what fits a u64
 fit : (n : ℕ) → n < 0x10000000000000000 → Fits w64 n

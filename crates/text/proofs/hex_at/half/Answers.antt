@@ -2,7 +2,7 @@
 use native.Mathlib.Omega.{arith}
 use Prim.Native.Nat.{ℕ, ◌+◌, ◌*◌, ◌<◌}
 use Rattle.text.proofs.Words.{four_bytes}
-use Rattle.text.proofs.hex.half.Goals as goal
+use Rattle.text.proofs.hex_at.half.Goals as goal
 
 -- four bytes are below 2^32
 below : (a b c d : ℕ) → a < 256 → b < 256 → c < 256 → d < 256 → a + b * 256 + c * 65536 + d * 16777216 < 0x100000000

@@ -8,8 +8,8 @@ use lib.ListN.{length, get_or, drop}
 use Rattle.text.specs.Bytes.{all, eight_at}
 use Rattle.text.specs.Digits.{is_hex}
 use Rattle.text.proofs.Part.{ahead, passed}
-use Rattle.text.proofs.hex.all_hex.Goals as goal
-use Rattle.text.proofs.hex.all_hex.Invariants.{Passed}
+use Rattle.text.proofs.hex_at.all_hex.Goals as goal
+use Rattle.text.proofs.hex_at.all_hex.Invariants.{Passed}
 
 module _ (l : List ℕ) (from : ℕ) (enough : from + 8 ≤ length l) (hex : Bool) (i : ℕ) (p : Passed l from hex i) where
   -- one byte more

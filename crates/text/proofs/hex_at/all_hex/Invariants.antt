@@ -6,7 +6,7 @@ use Prim.Native.Nat.{ℕ, ◌-◌, ◌≤◌}
 use lib.ListN.{drop}
 use Rattle.text.specs.Bytes.{all, eight_at}
 use Rattle.text.specs.Digits.{is_hex}
-use Rattle.text.proofs.hex.all_hex.Given as goal
+use Rattle.text.proofs.hex_at.all_hex.Given as goal
 
 -- all eight are digits if the first i are, as `hex` says, and those ahead
 pub record Passed (l : List ℕ) (from : ℕ) (hex : Bool) (i : ℕ) : Type 0 where
