@@ -12,7 +12,7 @@ use denote.Floats.{passes}
 use Rattle.floats.proofs.Laws.Compare.{Order, less, same, more, order, or_true}
 use Rattle.compound.specs.Answer.{outcome}
 use Rattle.compound.proofs.Chosen.{known}
-use Rattle.compound.proofs.route.from_logarithm.Goals as goal
+use Rattle.compound.proofs.choice.from_logarithm.Goals as goal
 
 -- a size that is neither above D nor D is below it
 smaller : (M D : ℕ) → (ltb D M || (eqb M D && true)) ≡ false → M < D

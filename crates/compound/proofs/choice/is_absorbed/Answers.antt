@@ -6,7 +6,7 @@ use lib.Ieee.{fin, binary32, fits, is_nan, to_bits}
 use mathlib.Core.Path.{◌≡◌, refl}
 use mathlib.Core.Bool.{false, not}
 use Rattle.whole.proofs.Exponent.{size_le}
-use Rattle.compound.proofs.route.is_absorbed.Goals as goal
+use Rattle.compound.proofs.choice.is_absorbed.Goals as goal
 
 -- 2^-54
 limit : (to_bits binary32 (fin false 1 (negsuc 53)) ≡ 0x2480_0000) × (T (fits binary32 (fin false 1 (negsuc 53))) × T (not (is_nan (fin false 1 (negsuc 53)))))

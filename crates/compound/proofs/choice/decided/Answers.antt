@@ -9,7 +9,7 @@ use Rattle.compound.specs.Answer.{outcome}
 use Rattle.fast_path.specs.Fast.{exp2_fast}
 use Rattle.slow_path.specs.Slow.{compoundf_accurate}
 use Rattle.compound.specs.Route.{decided}
-use Rattle.compound.proofs.route.decided.Goals as goal
+use Rattle.compound.proofs.choice.decided.Goals as goal
 
 fast : (x y t v r : Float) (res : Exp2) → res ≡ exp2_fast t → res ≡ Rounded v → r ≡ narrowed v → outcome (Fast r) ≡ decided x y (exp2_fast t)
 unfolding outcome decided

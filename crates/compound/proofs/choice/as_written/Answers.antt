@@ -5,7 +5,7 @@ use Rattle.floats.specs.Operations.{◌⊗◌}
 use Rattle.compound.specs.Answer.{Outcome}
 use Rattle.fast_path.specs.Fast.{compoundf_log2p1_fast}
 use Rattle.compound.specs.Route.{from_logarithm, table_path}
-use Rattle.compound.proofs.route.as_written.Goals as goal
+use Rattle.compound.proofs.choice.as_written.Goals as goal
 
 -- the results of the calls together are the definition
 together : (x y l : Float) (r : Outcome) → l ≡ compoundf_log2p1_fast x → r ≡ from_logarithm x y (l ⊗ y) → r ≡ table_path x y

@@ -7,8 +7,8 @@ use Rattle.compound.specs.Answer.{Outcome, outcome}
 use Rattle.compound.specs.Route.{Tabled, table_path}
 use Rattle.compound.proofs.Filtered as by
 use Rattle.compound.proofs.Absorbed.{absorbed_edge}
-use Rattle.compound.proofs.route.table_path.Goals as goal
-use Rattle.compound.proofs.route.table_path.Goals.{After-widen_bits-y}
+use Rattle.compound.proofs.choice.table_path.Goals as goal
+use Rattle.compound.proofs.choice.table_path.Goals.{After-widen_bits-y}
 
 -- x and y are the values of the patterns
 tabled : (m n : ℕ) (x y : Float) → Tabled (of_bits binary32 m) (of_bits binary32 n) → x ≡ of_bits binary32 m → y ≡ of_bits binary32 n → Tabled x y
