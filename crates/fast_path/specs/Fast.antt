@@ -10,27 +10,39 @@ use Rattle.tables.specs.Tables.{entry, pair_entry, log2p1_compoundf_inv, log2p1_
 use Rattle.special.specs.Special.{one, minus_one}
 use Rattle.fast_path.specs.Scaling.{scaled, exponent_of}
 
--- `log2p1_polyeval_1`: near log2(1 + z)
-unfoldable pub log2p1_polyeval1 : Float → Float
-log2p1_polyeval1 z =
+-- a, b and c to a value of a×b + c. The evaluations below are over any such `fma`, so that they can be made in another way too; the source's
+-- is `dd_fmla`.
+abbrev pub MulAdd : Type 0
+MulAdd = Float → Float → Float → Float
+
+-- what z is multiplied by in `log2p1_polyeval_1`
+unfoldable pub factor : MulAdd → Float → Float
+factor fma z =
     let z2 = z ⊗ z in
-    let c5 = dd_fmla (entry log2p1_poly_p 6) z (entry log2p1_poly_p 5) in
-    let c3 = dd_fmla (entry log2p1_poly_p 4) z (entry log2p1_poly_p 3) in
-    let c1 = dd_fmla (entry log2p1_poly_p 2) z (entry log2p1_poly_p 1) in
+    let c5 = fma (entry log2p1_poly_p 6) z (entry log2p1_poly_p 5) in
+    let c3 = fma (entry log2p1_poly_p 4) z (entry log2p1_poly_p 3) in
+    let c1 = fma (entry log2p1_poly_p 2) z (entry log2p1_poly_p 1) in
     let z4 = z2 ⊗ z2 in
-    let c5' = dd_fmla (entry log2p1_poly_p 7) z2 c5 in
-    let c1' = dd_fmla c3 z2 c1 in
-    let c1'' = dd_fmla c5' z4 c1' in
-    z ⊗ c1''
+    let c5' = fma (entry log2p1_poly_p 7) z2 c5 in
+    let c1' = fma c3 z2 c1 in
+    fma c5' z4 c1'
+
+-- `log2p1_polyeval_1`: near log2(1 + z)
+abbrev pub log2p1_polyeval1 : Float → Float
+log2p1_polyeval1 z = z ⊗ factor dd_fmla z
+
+-- near 2^z
+unfoldable pub expf_poly : MulAdd → Float → Float
+expf_poly fma z =
+    let z2 = z ⊗ z in
+    let c3 = fma (entry expf_poly_q 4) z (entry expf_poly_q 3) in
+    let c0 = fma (entry expf_poly_q 1) z (entry expf_poly_q 0) in
+    let c2 = fma c3 z (entry expf_poly_q 2) in
+    fma c2 z2 c0
 
 -- `compoundf_expf_poly`: near 2^z
-unfoldable pub compoundf_expf_poly : Float → Float
-compoundf_expf_poly z =
-    let z2 = z ⊗ z in
-    let c3 = dd_fmla (entry expf_poly_q 4) z (entry expf_poly_q 3) in
-    let c0 = dd_fmla (entry expf_poly_q 1) z (entry expf_poly_q 0) in
-    let c2 = dd_fmla c3 z (entry expf_poly_q 2) in
-    dd_fmla c2 z2 c0
+abbrev pub compoundf_expf_poly : Float → Float
+compoundf_expf_poly z = expf_poly dd_fmla z
 
 -- the place of t + 2 among the 64ths, for a sum from 2 to 4
 abbrev pub inverse_place : Float → ℕ
@@ -45,18 +57,22 @@ inverse_index t = inverse_place t - 0x2002d
 abbrev pub HasInverse : Float → Type 0
 HasInverse t = (0x2002d ≤ inverse_place t) × (inverse_index t < 46)
 
--- `compoundf_log2p1_fast`: near log2(1 + x)
-unfoldable pub compoundf_log2p1_fast : Float → Float
-compoundf_log2p1_fast x =
+-- near log2(1 + x)
+unfoldable pub log2p1 : MulAdd → Float → Float
+log2p1 fma x =
     let u = one ⊕ x in
     let v = to_bits binary64 u in
     let e = exponent_of v in
     let t = f64 (scaled v (neg_ℤ e)) in
     let i = inverse_index t in
     let r = entry log2p1_compoundf_inv i in
-    let z = dd_fmla r t minus_one in
-    let p = log2p1_polyeval1 z in
+    let z = fma r t minus_one in
+    let p = z ⊗ factor fma z in
     of_int binary64 e ⊕ ((pair_entry log2p1_compoundf_log2_inv i).hi ⊕ p)
+
+-- `compoundf_log2p1_fast`: near log2(1 + x)
+abbrev pub compoundf_log2p1_fast : Float → Float
+compoundf_log2p1_fast x = log2p1 dd_fmla x
 
 -- the place of 3.015625 + r among the 32nds, for a sum from 2 to 4
 abbrev pub power_place : Float → ℕ
