@@ -2,13 +2,8 @@
 use Rattle.std.specs.Prelude.{ℕ, List, [], ◌∷◌, Float}
 use Rattle.compound.specs.declared.Answer.{Answer}
 use Rattle.compound.specs.declared.Answer.TheVariants.{Rule, Whole, Edge, Fast, Slow}
--- the five routes: the cases of the enum, under the words of the document
-pub use Rattle.compound.specs.declared.Route.{Route}
-pub use Rattle.compound.specs.declared.Route.TheVariants.{Rule as rule, Whole as whole, Edge as edge, Fast as fast, Slow as slow}
-
--- the same, until every crate says Route
-abbrev pub Via : Type 0
-Via = Route
+use Rattle.compound.specs.declared.Route.{Route}
+use Rattle.compound.specs.declared.Route.TheVariants.{Rule as rule, Whole as whole, Edge as edge, Fast as fast, Slow as slow}
 
 -- "W is `rule`, `whole`, `edge`, `fast` or `slow`": the bytes of a route's name
 unfoldable pub word : Route → List ℕ

@@ -2,7 +2,9 @@
 use Rattle.std.specs.Prelude.{◌≡◌, List, [], ◌∷◌, map, ℕ}
 use Rattle.std.specs.Float.{binary32}
 use Rattle.std.specs.Float.Ieee.{of_bits}
-use Rattle.compound.specs.Answer.{Route, rule, whole, Outcome}
+use Rattle.compound.specs.declared.Route.{Route}
+use Rattle.compound.specs.declared.Route.TheVariants.{Rule as rule, Whole as whole}
+use Rattle.compound.specs.Answer.{Outcome}
 use Rattle.compound.specs.Route.{compound}
 
 -- a row of the document's table: the patterns of x, y and r, and the route
