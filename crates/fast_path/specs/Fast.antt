@@ -1,14 +1,12 @@
 -- Document 01, "Table path": `compoundf_log2p1_fast` and `exp2_fast`. "Operations and their order are those of" the source, line by line and
 -- under the names that the lines have there.
-use Rattle.std.specs.Prelude.{ℕ, ◌-◌, ◌/◌, ◌^◌, ◌<◌, ◌≤◌, cond, neg_ℤ, to_bits, Float}
+use Rattle.std.specs.Prelude.{ℕ, ◌-◌, ◌/◌, ◌^◌, ◌<◌, ◌≤◌, cond, neg_ℤ, Option, Some, None, to_bits, Float}
 use Rattle.std.specs.Float.{binary64}
 use Rattle.std.specs.Float.Ieee.{of_int, to_signed, lt, ne}
 use Rattle.floats.specs.Operations.{◌⊕◌, ◌⊖◌, ◌⊗◌, f64}
 use Rattle.floats.specs.Narrowing.{narrowed, nearest_whole}
 use Rattle.double_double.specs.DoubleDouble.{dd_fmla}
 use Rattle.tables.specs.Tables.{entry, pair_entry, log2p1_compoundf_inv, log2p1_compoundf_log2_inv, compoundf_exp2_t, compoundf_exp2_u, log2p1_poly_p, expf_poly_q}
-use Rattle.fast_path.specs.declared.Exp2.{Exp2}
-use Rattle.fast_path.specs.declared.Exp2.TheVariants.{Rounded, Failed}
 use Rattle.special.specs.Special.{one, minus_one}
 use Rattle.fast_path.specs.Scaling.{scaled, exponent_of}
 
@@ -80,15 +78,15 @@ exp2_reduced r =
     to_bits binary64 ((pair_entry compoundf_exp2_u i).hi ⊗ compoundf_expf_poly r')
 
 -- The two tests of `exp2_fast`: "a scaled value below the f64 38100000000008e2 is slow, and so is one that fails the rounding test".
-unfoldable pub rounding_test : Float → Float → Exp2
+unfoldable pub rounding_test : Float → Float → Option Float
 rounding_test v err =
-    cond (lt v (f64 0x38100000000008e2)) Failed
+    cond (lt v (f64 0x38100000000008e2)) None
     (let lb = narrowed (v ⊖ err) in
     let rb = narrowed (v ⊕ err) in
-    cond (ne lb rb) Failed (Rounded v))
+    cond (ne lb rb) None (Some v))
 
--- `exp2_fast`: 2^t where the rounding test passes. The source's -1.0 is the case `Failed`.
-unfoldable pub exp2_fast : Float → Exp2
+-- `exp2_fast`: 2^t where the rounding test passes. The source's -1.0 is the case `None`.
+unfoldable pub exp2_fast : Float → Option Float
 exp2_fast t =
     let k = nearest_whole t in
     let r = t ⊖ k in

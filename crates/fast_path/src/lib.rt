@@ -24,13 +24,6 @@ use tables::{
 
 pub mod scaling;
 
-// What `exp2_fast` finds: a number near 2^t where the rounding test passes, or that it fails.
-#[derive(Clone, Copy)]
-pub enum Exp2 {
-    Rounded(f64),
-    Failed,
-}
-
 // Near log2(1 + z) for |z| <= 1/64.
 fn log2p1_polyeval_1(z: f64) -> f64
     ensures { result ≡ spec.log2p1_polyeval1 z }
@@ -127,43 +120,44 @@ fn exp2_reduced(r: f64) -> u64
     to_bits_f64(exp2u.hi * q)
 }
 
-// v, where it is large enough to be a normal f32, and v less err and v plus err narrow to one f32.
-fn rounding_test(v: f64, err: f64) -> Exp2
+// v, where it is large enough to be a normal f32, and v less err and v plus err narrow to one f32; else
+// `None`, the source's -1.0.
+fn rounding_test(v: f64, err: f64) -> Option<f64>
     ensures { result ≡ spec.rounding_test v err }
 {
     // in case of potential underflow, we defer to the accurate path
     if v < f64::from_bits(0x3810_0000_0000_08e2) {
-        return Exp2::Failed;
+        return None;
     }
     let lb = narrow(v - err);
     let rb = narrow(v + err);
     if lb != rb {
-        return Exp2::Failed;
+        return None;
     }
-    Exp2::Rounded(v)
+    Some(v)
 }
 
 // `rounding_test` by the patterns w of v and e of err. Where e <= w - 40 * 2^52, err is at most 2^-40
 // of v, and so below 2^13 last places of it, or 2^14 of those below a power of two. If no midpoint of
 // two f32s is that near to v, both bounds narrow to one f32.
-fn pattern_test(w: u64, e: u64) -> Exp2
+fn pattern_test(w: u64, e: u64) -> Option<f64>
     ensures { result ≡ spec.rounding_test (f64 w) (f64 e) }
 {
     if w < 0x3810_0000_0000_0000 {
-        return Exp2::Failed;
+        return None;
     }
     if w >= 0x3810_0000_0000_4000
         && w < 0x7fe0_0000_0000_0000
         && e <= w - 0x280_0000_0000_0000
         && (w + 0x1000_2000) % 0x2000_0000 > 0x6000
     {
-        return Exp2::Rounded(f64::from_bits(w));
+        return Some(f64::from_bits(w));
     }
     rounding_test(from_bits_f64(w), from_bits_f64(e))
 }
 
 // Near 2^t, where the rounding test passes.
-pub fn exp2_fast(t: f64) -> Exp2
+pub fn exp2_fast(t: f64) -> Option<f64>
     requires t_above { T (lt (fin true 75 (pos 1)) t) }
     requires t_below { T (lt t (fin false 1 (pos 7))) }
     ensures { result ≡ spec.exp2_fast t }

@@ -1,6 +1,6 @@
 -- What the filter finds of the plain t' is right of t = l×y as the fast path has it (`plain_right`): at the edges by how near the two are, and between them by the nearness of the two powers. Assumes
 -- nothing.
-use Rattle.std.proofs.Common.{◌≡◌, ℕ, ◌+◌, ◌-◌, ◌*◌, ◌/◌, ◌%◌, ◌^◌, ◌<◌, ◌≤◌, Bool, true, false, cond, ◌&&◌, ltb, ◌⊎◌, pos, refl, ap, ◌∙◌, inl, inr, le_trans, le_of_eq, lt_of_lt_of_le, add-zero, mul_assoc, zero-add, arith, lit<, lit≤, ltb-true}
+use Rattle.std.proofs.Common.{◌≡◌, ℕ, ◌+◌, ◌-◌, ◌*◌, ◌/◌, ◌%◌, ◌^◌, ◌<◌, ◌≤◌, Bool, true, false, cond, ◌&&◌, ltb, ◌⊎◌, pos, refl, ap, ◌∙◌, inl, inr, le_trans, le_of_eq, lt_of_lt_of_le, add-zero, mul_assoc, zero-add, arith, lit<, lit≤, ltb-true, Some, None}
 use lib.Ieee.{Float, fin, binary32, fits, of_bits, to_signed, le, lt, eq}
 use Rattle.floats.specs.Operations.{◌⊖◌, f64}
 use Rattle.floats.specs.Narrowing.{nearest_whole}
@@ -13,7 +13,7 @@ use Rattle.bounds.proofs.Scales.{S, Bound, at}
 use Rattle.bounds.proofs.Distances.{Apart, bound_near}
 use Rattle.bounds.proofs.Compared.{le_true, units_of_not_lt}
 use Rattle.bounds.proofs.Nearest.{sign_above, sign_below}
-use Rattle.filter.specs.declared.Found.TheVariants.{Fast, Slow, Low, High, One, Unsure}
+use Rattle.filter.specs.declared.Found.TheVariants.{Fast, Slow, Low, High, One}
 use Rattle.filter.specs.Plain.{part_of, rest_of, plain_pattern, margin, near_midpoint, rounded_pattern, clear_of_switches, middle_found, low_edge, slow_from, slow_to, low_found, high_edge, high_found, tiny_found, is_tiny, plain_found}
 use Rattle.filter.specs.Right.{Inside, Passed, Right}
 use Rattle.filter.proofs.Limits.{middle_bound}
@@ -120,7 +120,7 @@ module _ (t t' : Float) (b : TimesBeside t t') (m : Bound S (124 * 2 ^ 53) t') (
   middle_right = go (clear_of_switches (part_of t') (rest_of t')) refl (ltb (2 * margin) ((scaled (plain_pattern t') (to_signed 63 (nearest_whole t')) + (0x10000000 + margin)) % 0x20000000)) refl
     where
       go : (x : Bool) → clear_of_switches (part_of t') (rest_of t') ≡ x → (y : Bool) → ltb (2 * margin) ((scaled (plain_pattern t') (to_signed 63 (nearest_whole t')) + (0x10000000 + margin)) % 0x20000000) ≡ y
-          → Right (cond x (cond y (Fast (of_bits binary32 ((scaled (plain_pattern t') (to_signed 63 (nearest_whole t')) + 0x10000000) / 0x20000000 - 0x1c0000000))) (near_midpoint t' (scaled (plain_pattern t') (to_signed 63 (nearest_whole t'))))) Unsure) t
+          → Right (cond x (cond y (Some (Fast (of_bits binary32 ((scaled (plain_pattern t') (to_signed 63 (nearest_whole t')) + 0x10000000) / 0x20000000 - 0x1c0000000)))) (near_midpoint t' (scaled (plain_pattern t') (to_signed 63 (nearest_whole t'))))) None) t
       go true e true f = passed e (ltb-true _ _ f)
       go true e false f = near_right signs.sign t t' signs.has signs.plain_has b inside
       go false e y f = tt
@@ -130,7 +130,7 @@ low_right : {t t' : Float} → TimesBeside t t' → Right (low_found t') t
 unfolding low_found
 low_right {t} {t'} b = go (le t' low_edge) refl (le t' slow_to) refl (le slow_from t') refl
   where
-    go : (x : Bool) → le t' low_edge ≡ x → (y : Bool) → le t' slow_to ≡ y → (z : Bool) → le slow_from t' ≡ z → Right (cond x Low (cond (y && z) Slow Unsure)) t
+    go : (x : Bool) → le t' low_edge ≡ x → (y : Bool) → le t' slow_to ≡ y → (z : Bool) → le slow_from t' ≡ z → Right (cond x (Some Low) (cond (y && z) (Some Slow) None)) t
     go true e y f z g = low_edge_lem b e
     go false e true f true g = below_normals b f g
     go false e true f false g = tt
@@ -140,7 +140,7 @@ high_right : {t t' : Float} → TimesBeside t t' → Right (high_found t') t
 unfolding high_found
 high_right {t} {t'} b = go (le high_edge t') refl
   where
-    go : (x : Bool) → le high_edge t' ≡ x → Right (cond x High Unsure) t
+    go : (x : Bool) → le high_edge t' ≡ x → Right (cond x (Some High) None) t
     go true e = high_edge_lem b e
     go false e = tt
 
@@ -148,7 +148,7 @@ tiny_right : {t t' : Float} → TimesBeside t t' → Right (tiny_found t') t
 unfolding tiny_found
 tiny_right {t} {t'} b = go (eq t' Special.zero) refl
   where
-    go : (x : Bool) → eq t' Special.zero ≡ x → Right (cond x One Unsure) t
+    go : (x : Bool) → eq t' Special.zero ≡ x → Right (cond x (Some One) None) t
     go true e = at_one b e
     go false e = tt
 

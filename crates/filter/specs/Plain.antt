@@ -1,6 +1,6 @@
 -- The plain evaluation: the fast path's logarithm and power of two with a product and a sum wherever it has a `dd_fmla`. It stands in no document; it is what the filter
 -- runs in front, and the theorems say how far it is from the fast path.
-use Rattle.std.specs.Prelude.{ℕ, ◌+◌, ◌-◌, ◌*◌, ◌/◌, ◌%◌, ◌^◌, Bool, true, false, cond, ◌&&◌, pos, negsuc, neg_ℤ, from_bits, nat_le, nat_lt, to_bits, Float}
+use Rattle.std.specs.Prelude.{ℕ, ◌+◌, ◌-◌, ◌*◌, ◌/◌, ◌%◌, ◌^◌, Bool, true, false, cond, ◌&&◌, pos, negsuc, neg_ℤ, Option, Some, None, from_bits, nat_le, nat_lt, to_bits, Float}
 use Rattle.std.specs.Float.{fin, binary32, binary64}
 use Rattle.std.specs.Float.Ieee.{of_int, to_signed, neg, lt, le, eq}
 use Rattle.floats.specs.Operations.{◌⊕◌, ◌⊖◌, ◌⊗◌, f64}
@@ -10,7 +10,7 @@ use Rattle.special.specs.Special.{zero, one, minus_one}
 use Rattle.fast_path.specs.Scaling.{scaled, exponent_of}
 use Rattle.fast_path.specs.Fast.{inverse_index, power_index}
 use Rattle.filter.specs.declared.Found.{Found}
-use Rattle.filter.specs.declared.Found.TheVariants.{Fast, Slow, Low, High, One, Unsure}
+use Rattle.filter.specs.declared.Found.TheVariants.{Fast, Slow, Low, High, One}
 
 -- what `log2p1_polyeval_1` multiplies z by
 unfoldable pub plain_factor : Float → Float
@@ -66,12 +66,12 @@ abbrev pub nearness : ℕ
 nearness = 2 ^ 11
 
 -- |t| is at most 2^-14, and the pattern w is near a midpoint: the rounding test fails; else nothing is sure. Of the digits of w an f32 drops 29, and at a midpoint these are 2^28
-unfoldable pub near_midpoint : Float → ℕ → Found
-near_midpoint t w = cond ((le t (f64 0x3f10000000000000) && le (f64 0xbf10000000000000) t) && nat_le ((w + (0x10000000 + nearness)) % 0x20000000) (2 * nearness)) Slow Unsure
+unfoldable pub near_midpoint : Float → ℕ → Option Found
+near_midpoint t w = cond ((le t (f64 0x3f10000000000000) && le (f64 0xbf10000000000000) t) && nat_le ((w + (0x10000000 + nearness)) % 0x20000000) (2 * nearness)) (Some Slow) None
 
 -- the pattern w, scaled: clear of every midpoint, it is rounded to 24 digits; else it may be near one
-unfoldable pub rounded_pattern : Float → ℕ → Found
-rounded_pattern t w = cond (nat_lt (2 * margin) ((w + (0x10000000 + margin)) % 0x20000000)) (Fast (from_bits binary32 ((w + 0x10000000) / 0x20000000 - 0x1c0000000))) (near_midpoint t w)
+unfoldable pub rounded_pattern : Float → ℕ → Option Found
+rounded_pattern t w = cond (nat_lt (2 * margin) ((w + (0x10000000 + margin)) % 0x20000000)) (Some (Fast (from_bits binary32 ((w + 0x10000000) / 0x20000000 - 0x1c0000000)))) (near_midpoint t w)
 
 -- whether k and the index stay the same within 2^-30: |part| is at most 1/2 - 2^-30, and |rest| at most 1/64 - 2^-30
 abbrev pub part_end : Float
@@ -87,8 +87,8 @@ unfoldable pub clear_of_switches : Float → Float → Bool
 clear_of_switches part rest = (le part part_end && le (neg part_end) part) && clear_of_index rest
 
 -- t from -124 to 124
-unfoldable pub middle_found : Float → Found
-middle_found t = cond (clear_of_switches (part_of t) (rest_of t)) (rounded_pattern t (scaled (plain_pattern t) (to_signed 63 (nearest_whole t)))) Unsure
+unfoldable pub middle_found : Float → Option Found
+middle_found t = cond (clear_of_switches (part_of t) (rest_of t)) (rounded_pattern t (scaled (plain_pattern t) (to_signed 63 (nearest_whole t)))) None
 
 -- t below -124: at most -151 it is at the lower edge, and from -149.5 to -128 the value is below the normal f32s
 abbrev pub low_edge : Float
@@ -100,26 +100,26 @@ slow_from = fin true 299 (negsuc 0)
 abbrev pub slow_to : Float
 slow_to = fin true 1 (pos 7)
 
-unfoldable pub low_found : Float → Found
-low_found t = cond (le t low_edge) Low (cond (le t slow_to && le slow_from t) Slow Unsure)
+unfoldable pub low_found : Float → Option Found
+low_found t = cond (le t low_edge) (Some Low) (cond (le t slow_to && le slow_from t) (Some Slow) None)
 
 -- t above 124: at least 129 it is at the upper edge
 abbrev pub high_edge : Float
 high_edge = fin false 129 (pos 0)
 
-unfoldable pub high_found : Float → Found
-high_found t = cond (le high_edge t) High Unsure
+unfoldable pub high_found : Float → Option Found
+high_found t = cond (le high_edge t) (Some High) None
 
 -- |t| below 2^-300: 0
-unfoldable pub tiny_found : Float → Found
-tiny_found t = cond (eq t zero) One Unsure
+unfoldable pub tiny_found : Float → Option Found
+tiny_found t = cond (eq t zero) (Some One) None
 
 -- whether |t| is below 2^-300
 unfoldable pub is_tiny : Float → Bool
 is_tiny t = lt (f64 0xad30000000000000) t && lt t (f64 0x2d30000000000000)
 
 -- all of them
-unfoldable pub plain_found : Float → Found
+unfoldable pub plain_found : Float → Option Found
 plain_found t =
     cond (lt t (fin true 31 (pos 2))) (low_found t)
     (cond (lt (fin false 31 (pos 2)) t) (high_found t) (cond (is_tiny t) (tiny_found t) (middle_found t)))

@@ -26,8 +26,7 @@ use tables::compoundf_exp2_t;
 pub mod plain;
 
 // What is found of a pair: the fast answer; that the fast path fails its tests, so that the answer is
-// the slow one; that t is at the lower edge, at the upper edge, or so small that the answer is 1; or
-// nothing.
+// the slow one; that t is at the lower edge, at the upper edge, or so small that the answer is 1.
 #[derive(Clone, Copy)]
 pub enum Found {
     Fast(f32),
@@ -35,13 +34,13 @@ pub enum Found {
     Low,
     High,
     One,
-    Unsure,
 }
 
 // Slow, where the scaled pattern w is at most 2^11 from a midpoint of two f32s, at which the last 29
 // digits are 2^28, and |t| is at most 2^-14. There the fast path's pattern is at most 64 from w, and its
 // bound on the error is 2280 last places or more, so that the midpoint is between its two bounds.
-fn near_midpoint(t: f64, w: u64) -> Found
+#[tactic(auto, using(floats::proofs::Laws::Nan::number_of_below), unfolding(crate::specs::Plain::near_midpoint))]
+fn near_midpoint(t: f64, w: u64) -> Option<Found>
     requires { w < 1148 * 2 ^ 52 }
     ensures { result ≡ spec.near_midpoint t w }
 {
@@ -49,22 +48,22 @@ fn near_midpoint(t: f64, w: u64) -> Found
     let small = (t <= f64::from_bits(0x3f10_0000_0000_0000))
         & (t >= f64::from_bits(0xbf10_0000_0000_0000));
     if small & ((w + 0x1000_0800) % 0x2000_0000 <= 0x1000) {
-        return Found::Slow;
+        return Some(Found::Slow);
     }
-    Found::Unsure
+    None
 }
 
 // The answer of the scaled pattern w, where no midpoint of two f32s is near. Of its digits an f32 drops
 // 29, and at a midpoint these are 2^28; 2^20 + 2^15 is the margin on either side, and 896 * 2^23 what the
 // exponents' fields differ by.
-fn rounded_pattern(t: f64, w: u64) -> Found
+fn rounded_pattern(t: f64, w: u64) -> Option<Found>
     requires w_least { 898 * 2 ^ 52 ≤ w }
     requires w_below { w < 1148 * 2 ^ 52 }
     ensures { result ≡ spec.rounded_pattern t w }
 {
     if (w + 0x1010_8000) % 0x2000_0000 > 0x21_0000 {
         let n = (w + 0x1000_0000) / 0x2000_0000 - 0x1_c000_0000;
-        return Found::Fast(f32::from_bits(n as u32));
+        return Some(Found::Fast(f32::from_bits(n as u32)));
     }
     near_midpoint(t, w)
 }
@@ -90,7 +89,7 @@ fn clear_of_switches(part: f64, rest: f64) -> bool
 
 // For t from -124 to 124 that is not tiny, in two steps: the nearest whole number, and the nearest 32nd
 // to what is left.
-fn in_two_steps(t: f64) -> Found
+fn in_two_steps(t: f64) -> Option<Found>
     requires t_least { T (le (fin true 31 (pos 2)) t) }
     requires t_most { T (le t (fin false 31 (pos 2))) }
     requires not_tiny { spec.is_tiny t ≡ false }
@@ -101,18 +100,18 @@ fn in_two_steps(t: f64) -> Found
     let i = power_index(part);
     // This never happens; the test tells the compiler the range, so that the tables need none.
     if i > 32 {
-        return Found::Unsure;
+        return None;
     }
     let rest = part - compoundf_exp2_t(i);
     if clear_of_switches(part, rest) {
         return rounded_pattern(t, scaled(plain_power(i, rest), k as i64));
     }
-    Found::Unsure
+    None
 }
 
 // The same in one step, where the nearest 32nd is not halfway between two whole numbers and no switch of
 // the index is near.
-fn middle_found(t: f64) -> Found
+fn middle_found(t: f64) -> Option<Found>
     requires t_least { T (le (fin true 31 (pos 2)) t) }
     requires t_most { T (le t (fin false 31 (pos 2))) }
     requires not_tiny { spec.is_tiny t ≡ false }
@@ -133,36 +132,37 @@ fn middle_found(t: f64) -> Found
 }
 
 // For t below -124.
-fn low_found(t: f64) -> Found
+fn low_found(t: f64) -> Option<Found>
     ensures { result ≡ spec.low_found t }
 {
     if t <= -151.0 {
-        return Found::Low;
+        return Some(Found::Low);
     }
     if (t <= -128.0) & (t >= -149.5) {
-        return Found::Slow;
+        return Some(Found::Slow);
     }
-    Found::Unsure
+    None
 }
 
 // For t above 124.
-fn high_found(t: f64) -> Found
+fn high_found(t: f64) -> Option<Found>
     ensures { result ≡ spec.high_found t }
 {
     if t >= 129.0 {
-        return Found::High;
+        return Some(Found::High);
     }
-    Found::Unsure
+    None
 }
 
 // For |t| below 2^-300.
-fn tiny_found(t: f64) -> Found
+#[tactic(auto, unfolding(crate::specs::Plain::tiny_found))]
+fn tiny_found(t: f64) -> Option<Found>
     ensures { result ≡ spec.tiny_found t }
 {
     if t == 0.0 {
-        return Found::One;
+        return Some(Found::One);
     }
-    Found::Unsure
+    None
 }
 
 // Whether |t| is below 2^-300.
@@ -173,7 +173,7 @@ fn is_tiny(t: f64) -> bool
 }
 
 // For the t of the plain logarithm.
-fn plain_found(t: f64) -> Found
+fn plain_found(t: f64) -> Option<Found>
     requires { T (finite t) }
     ensures { result ≡ spec.plain_found t }
 {
@@ -190,7 +190,7 @@ fn plain_found(t: f64) -> Found
 }
 
 // What is found of x and y, the f64s of two finite f32s.
-pub fn filtered(x: f64, y: f64) -> Found
+pub fn filtered(x: f64, y: f64) -> Option<Found>
     requires x_fits { T (fits binary32 x) }
     requires x_finite { T (finite x) }
     requires x_above { T (lt minus_one x) }

@@ -1,5 +1,5 @@
 -- `in_two_steps` meets its contract: for t from -124 to 124 the index is inside the table, k can be cast, and the scaled pattern is that of a normal f32's value. Assumes nothing.
-use Rattle.std.proofs.Common.{◌≡◌, ℕ, ◌*◌, ◌^◌, ◌<◌, ◌≤◌, Bool, true, false, T, ℤ, sym, ap, ◌∙◌, subst, lt_of_lt_of_le, not-le_of_lt, lit<, w64, to_z, of_z}
+use Rattle.std.proofs.Common.{◌≡◌, ℕ, ◌*◌, ◌^◌, ◌<◌, ◌≤◌, Bool, true, false, T, ℤ, sym, ap, ◌∙◌, subst, lt_of_lt_of_le, not-le_of_lt, lit<, w64, to_z, of_z, None}
 use lib.Ieee.{Float, binary64, to_bits, of_bits, to_signed, in_signed}
 use denote.Floats.{passes}
 use Rattle.floats.specs.Operations.{◌⊕◌, ◌⊖◌, ◌⊗◌}
@@ -11,7 +11,6 @@ use Rattle.fast_path.specs.Scaling.{scaled, Within}
 use Rattle.fast_path.specs.Fast.{power_index, HasPower}
 use Rattle.fast_path.proofs.Index.{Castable}
 use Rattle.bounds.proofs.Scales.{S, Bound}
-use Rattle.filter.specs.declared.Found.TheVariants.{Unsure}
 use Rattle.filter.specs.Plain.{plain_expf_poly, part_of, rest_of, plain_pattern, rounded_pattern, clear_of_switches, is_tiny, middle_found}
 use Rattle.filter.proofs.Middle.{bounded, not_small, plus_zero_lem, edges_of, whole_small, whole_castable, part_power, plain_range}
 use Rattle.filter.proofs.in_two_steps.Goals as goal
@@ -93,8 +92,8 @@ rounded_pattern-requires-clause-w_below c = (let t = c.args.t in subst (λ (w : 
 
 pub returns-then-clear_of_switches : goal.returns-then-clear_of_switches
 unfolding middle_found at_start
-returns-then-clear_of_switches c = c.rounded_pattern.ensures ∙ ap (rounded_pattern _) (pattern_is (goal.at.returns-then-clear_of_switches c).After-scaled) ∙ first _ _ Unsure (tests_pass (goal.at.returns-then-clear_of_switches c).After-scaled)
+returns-then-clear_of_switches c = c.rounded_pattern.ensures ∙ ap (rounded_pattern _) (pattern_is (goal.at.returns-then-clear_of_switches c).After-scaled) ∙ first _ _ None (tests_pass (goal.at.returns-then-clear_of_switches c).After-scaled)
 
 pub returns : goal.returns
 unfolding middle_found
-returns c = second _ _ Unsure (sym (tested_parts c.args.t _ _ _ _ (part_is (goal.at.returns c).After-round_ties_even_small-k) c.power_index-i.ensures c.compoundf_exp2_t.ensures c.clear_of_switches.ensures) ∙ c.if-clear_of_switches.false)
+returns c = second _ _ None (sym (tested_parts c.args.t _ _ _ _ (part_is (goal.at.returns c).After-round_ties_even_small-k) c.power_index-i.ensures c.compoundf_exp2_t.ensures c.clear_of_switches.ensures) ∙ c.if-clear_of_switches.false)

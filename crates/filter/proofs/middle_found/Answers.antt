@@ -1,5 +1,5 @@
 -- `middle_found` meets its contract: in one step it finds what the definition finds in two, and else it leaves it to those. Assumes nothing.
-use Rattle.std.proofs.Common.{◌≡◌, ℕ, ◌*◌, ◌%◌, ◌^◌, ◌<◌, ◌≤◌, Bool, true, false, not, ◌&&◌, T, ltb, sym, ap, ◌∙◌, subst, true≢false, lt_of_lt_of_le, lit<, ltb→lt}
+use Rattle.std.proofs.Common.{◌≡◌, ℕ, ◌*◌, ◌%◌, ◌^◌, ◌<◌, ◌≤◌, Bool, true, false, not, ◌&&◌, T, ltb, sym, ap, ◌∙◌, subst, true≢false, lt_of_lt_of_le, lit<, ltb→lt, None}
 use lib.Ieee.{Float, nan, inf, fin, is_nan, of_bits, to_signed}
 use lib.Ieee.Scale.{finite}
 use denote.Floats.{passes}
@@ -9,7 +9,6 @@ use Rattle.floats.proofs.Laws.Tests.{first}
 use Rattle.fast_path.specs.Scaling.{scaled}
 use Rattle.bounds.proofs.Values.{mag}
 use Rattle.bounds.proofs.Scales.{S, Bound}
-use Rattle.filter.specs.declared.Found.TheVariants.{Unsure}
 use Rattle.filter.specs.Plain.{part_of, rest_of, plain_pattern, rounded_pattern, clear_of_index, clear_of_switches, middle_found}
 use Rattle.filter.proofs.Middle.{bounded, not_small, plain_range}
 use Rattle.filter.proofs.OneStep.{wide, nearest32nd, digits32, sum_range, digits_fit, clear_of_both, same_pattern}
@@ -72,4 +71,4 @@ rounded_pattern-requires-clause-w_below c = (subst (λ (w : ℕ). (898 * 2 ^ 52 
 
 pub returns-then-i-clear_of_index : goal.returns-then-i-clear_of_index
 unfolding middle_found t
-returns-then-i-clear_of_index c = c.rounded_pattern.ensures ∙ ap (rounded_pattern _) (pattern_is (goal.at.returns-then-i-clear_of_index c).After-wrapping_add_u64) ∙ first _ _ Unsure (clear (goal.at.returns-then-i-clear_of_index c).After-wrapping_add_u64)
+returns-then-i-clear_of_index c = c.rounded_pattern.ensures ∙ ap (rounded_pattern _) (pattern_is (goal.at.returns-then-i-clear_of_index c).After-wrapping_add_u64) ∙ first _ _ None (clear (goal.at.returns-then-i-clear_of_index c).After-wrapping_add_u64)
