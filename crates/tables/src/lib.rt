@@ -34,7 +34,8 @@ pub trait Table {
     }
 }
 
-// A table of double-doubles. The pattern of one is the pair of lo's and hi's.
+// A table of double-doubles; the pattern of one is the pair of lo's and hi's. A trait of its own: over
+// one trait for both, each entry would be read through a further trait, of the patterns.
 pub trait PairTable {
     // The patterns, lowest index first, and how many there are.
     ghost patterns: { List (ℕ × ℕ) };
