@@ -13,8 +13,9 @@ use Rattle.bounds.proofs.Scales.{S, Bound, at}
 use Rattle.bounds.proofs.Distances.{Apart, bound_near}
 use Rattle.bounds.proofs.Compared.{le_true, units_of_not_lt}
 use Rattle.bounds.proofs.Nearest.{sign_above, sign_below}
-use Rattle.filter.specs.declared.Found.TheVariants.{Fast, Slow, Low, High, One}
-use Rattle.filter.specs.Plain.{part_of, rest_of, plain_pattern, margin, near_midpoint, rounded_pattern, clear_of_switches, middle_found, low_edge, slow_from, slow_to, low_found, high_edge, high_found, tiny_found, is_tiny, plain_found}
+use Rattle.filter.specs.declared.Found.TheVariants.{Slow, Low, High, One}
+use Rattle.filter.specs.Midpoints.{narrowed_pattern}
+use Rattle.filter.specs.Plain.{part_of, rest_of, plain_pattern, margin, switch_gap, near_midpoint, fast_or, rounded_pattern, clear_of_switches, middle_found, low_edge, slow_from, slow_to, low_found, high_edge, high_found, tiny_found, is_tiny, plain_found}
 use Rattle.filter.specs.Right.{Inside, Passed, Right}
 use Rattle.filter.proofs.Limits.{middle_bound}
 use Rattle.filter.proofs.Power.{PowerBeside, power_beside}
@@ -97,7 +98,7 @@ module _ (t t' : Float) (b : TimesBeside t t') (m : Bound S (124 * 2 ^ 53) t') (
       large p n q k x y h i j = at_half p n q k (2 ^ 773) x y (le_trans (lit≤ tt) h) (half (p + k) (n + q) (q + k) i) (half (n + q) (p + k) (q + k) j)
 
   -- clear of the switches and of the midpoints
-  module _ (clear : clear_of_switches (part_of t') (rest_of t') ≡ true) (apart : 2 * margin < (scaled (plain_pattern t') (to_signed 63 (nearest_whole t')) + (0x10000000 + margin)) % 0x20000000) where
+  module _ (clear : clear_of_switches switch_gap (part_of t') (rest_of t') ≡ true) (apart : 2 * margin < (scaled (plain_pattern t') (to_signed 63 (nearest_whole t')) + (0x10000000 + margin)) % 0x20000000) where
     powers : PowerBeside t t'
     powers =
         let o = switch_bounds t' m clear in
@@ -116,11 +117,11 @@ module _ (t t' : Float) (b : TimesBeside t t') (m : Bound S (124 * 2 ^ 53) t') (
     }
 
   middle_right : Right (middle_found t') t
-  unfolding middle_found rounded_pattern
-  middle_right = go (clear_of_switches (part_of t') (rest_of t')) refl (ltb (2 * margin) ((scaled (plain_pattern t') (to_signed 63 (nearest_whole t')) + (0x10000000 + margin)) % 0x20000000)) refl
+  unfolding middle_found rounded_pattern narrowed_pattern
+  middle_right = go (clear_of_switches switch_gap (part_of t') (rest_of t')) refl (ltb (2 * margin) ((scaled (plain_pattern t') (to_signed 63 (nearest_whole t')) + (0x10000000 + margin)) % 0x20000000)) refl
     where
-      go : (x : Bool) → clear_of_switches (part_of t') (rest_of t') ≡ x → (y : Bool) → ltb (2 * margin) ((scaled (plain_pattern t') (to_signed 63 (nearest_whole t')) + (0x10000000 + margin)) % 0x20000000) ≡ y
-          → Right (cond x (cond y (Some (Fast (of_bits binary32 ((scaled (plain_pattern t') (to_signed 63 (nearest_whole t')) + 0x10000000) / 0x20000000 - 0x1c0000000)))) (near_midpoint t' (scaled (plain_pattern t') (to_signed 63 (nearest_whole t'))))) None) t
+      go : (x : Bool) → clear_of_switches switch_gap (part_of t') (rest_of t') ≡ x → (y : Bool) → ltb (2 * margin) ((scaled (plain_pattern t') (to_signed 63 (nearest_whole t')) + (0x10000000 + margin)) % 0x20000000) ≡ y
+          → Right (cond x (fast_or (cond y (Some (of_bits binary32 ((scaled (plain_pattern t') (to_signed 63 (nearest_whole t')) + 0x10000000) / 0x20000000 - 0x1c0000000))) None) (near_midpoint t' (scaled (plain_pattern t') (to_signed 63 (nearest_whole t'))))) None) t
       go true e true f = passed e (ltb-true _ _ f)
       go true e false f = near_right signs.sign t t' signs.has signs.plain_has b inside
       go false e y f = tt

@@ -29,14 +29,6 @@ pub float_to_int-ik : goal.float_to_int-ik
 unfolding of_bits
 float_to_int-ik c = (k_castable (goal.at.float_to_int-ik c).After-round_ties_even-k).defined
 
-pub scaled-requires : goal.scaled-requires
-unfolding of_bits
-scaled-requires c = (k_castable (goal.at.scaled-requires c).After-round_ties_even-k).within
-
-pub scaled-requires-2 : goal.scaled-requires-2
-unfolding of_bits
-scaled-requires-2 c = (k_castable (goal.at.scaled-requires-2 c).After-round_ties_even-k).within
-
 -- the results of the calls together are the definition
 together : (t k : Float) (v : ℕ) (ik : ℤ) (sv se : ℕ) (r : Option Float) → k ≡ nearest_whole t → v ≡ exp2_reduced (t ⊖ k) → ik ≡ to_signed 63 k → sv ≡ scaled v ik
     → se ≡ scaled 0x3d61d00000000000 ik → r ≡ rounding_test (f64 sv) (f64 se) → r ≡ exp2_fast t

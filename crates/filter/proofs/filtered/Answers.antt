@@ -27,7 +27,7 @@ right : (x y l : Float) (r : Option Found) → Asked x y → l ≡ plain_log2p1 
 right x y l r a e d = subst (λ (f : Option Found). Right f (compoundf_log2p1_fast x ⊗ y)) (sym d) (subst (λ (k : Float). Right (plain_found (k ⊗ y)) (compoundf_log2p1_fast x ⊗ y)) (sym e) (plain_right (beside x y a)))
 
 pub plain_found-requires : goal.plain_found-requires
-plain_found-requires c = finite_product c.args.x c.args.y _ (c.requires.x_fits, (c.requires.x_finite, (c.requires.x_above, (c.requires.y_fits, c.requires.y_finite)))) c.plain_log2p1-l.ensures
+plain_found-requires c = finite_product c.args.x c.args.y _ (c.requires.x_fits, (c.requires.x_finite, (c.requires.x_above, (c.requires.y_fits, c.requires.y_finite)))) c.log2p1-l.ensures
 
 pub returns : goal.returns
-returns c = right c.args.x c.args.y _ _ (c.requires.x_fits, (c.requires.x_finite, (c.requires.x_above, (c.requires.y_fits, c.requires.y_finite)))) c.plain_log2p1-l.ensures c.plain_found.ensures
+returns c = right c.args.x c.args.y _ _ (c.requires.x_fits, (c.requires.x_finite, (c.requires.x_above, (c.requires.y_fits, c.requires.y_finite)))) c.log2p1-l.ensures c.plain_found.ensures
