@@ -4,15 +4,14 @@ use Rattle.std.proofs.Common.{◌≡◌, ℕ, ◌+◌, ◌*◌, ◌^◌, ◌<◌
 use lib.Ieee.{Float}
 use Rattle.double_double.specs.declared.DoubleDouble.{DoubleDouble}
 use Rattle.double_double.specs.DoubleDouble.{quick_mult_f64, dd_fmla}
-use Rattle.tables.specs.Tables.{entry, log2p1_log2_poly}
-use Rattle.slow_path.specs.Slow.{p, dropping_h, with_term, next_log2, higher, log2_poly2, sum_of_logs}
+use Rattle.slow_path.specs.Slow.{p, with_term, next_log2, higher, log2_poly2, sum_of_logs}
 use Rattle.bounds.proofs.Scales.{S, unit, unit_left, Scale, Bound, Bounds, at, ok, sum_k, product_k, fast_k, quick_lo_k, quick_ok, add_bound, fast_bounds, quick_bounds, quick_f64_bounds, fmla_bound}
 use Rattle.slow_path.proofs.Coefficients.{log_size, log_second}
 
 -- ---- the accurate polynomial
 -- of the loop over the higher coefficients only the last turn counts
 higher_is : (z : Float) → dd_fmla z z (p 16) ≡ higher z
-unfolding higher dropping_h log2p1_log2_poly entry
+unfolding higher
 higher_is z = refl
 
 -- one step, for a z on any scale

@@ -1,7 +1,7 @@
 -- Document 01, "Table path" and "Traps for the translator": `compoundf_log2p1_accurate` and `compoundf_exp2_accurate`, line by line with the
 -- source, at every double-double. One sum stands the other way round, which changes nothing: the source's `2.0 + v_dd.hi` is `inverse_index`'s t + 2,
 -- as the fast path has it.
-use Rattle.std.specs.Prelude.{ℕ, ◌+◌, ◌-◌, ◌%◌, ◌^◌, min, Bool, true, false, cond, ◌&&◌, List, [], ◌∷◌, take, drop, ℤ, pos, negsuc, ◌==◌, nat_le, to_bits, fold, Float}
+use Rattle.std.specs.Prelude.{ℕ, ◌+◌, ◌-◌, ◌%◌, ◌^◌, min, Bool, true, false, cond, ◌&&◌, [], ◌∷◌, ℤ, pos, negsuc, ◌==◌, nat_le, to_bits, fold, Float}
 use Rattle.std.specs.Float.{fin, binary32, binary64}
 use Rattle.std.specs.Float.Ieee.{add, lt, le, eq, ne, of_int, to_signed}
 use Rattle.floats.specs.Operations.{◌⊕◌, ◌⊖◌, ◌⊗◌, f64}
@@ -21,11 +21,6 @@ p i = entry log2p1_log2_poly i
 abbrev pub q2 : ℕ → Float
 q2 i = entry exp2_poly_q2 i
 
--- "In `log2_poly2` the loop over the higher coefficients drops h at each turn": the loop over the coefficients that are left, from h on
-unfoldable pub dropping_h : Float → List ℕ → Float → Float
-dropping_h z [] h = h
-dropping_h z (c ∷ cs) h = dropping_h z cs (dd_fmla z z (f64 c))
-
 -- What both polynomials do with the coefficient of a degree, for the sum t of its hi and v's: v.hi = t.hi and v.lo += t.lo + lo.
 unfoldable pub with_term : DoubleDouble → DoubleDouble → Float → DoubleDouble
 with_term v t lo = record { lo = v.lo ⊕ (t.lo ⊕ lo); hi = t.hi }
@@ -34,9 +29,10 @@ with_term v t lo = record { lo = v.lo ⊕ (t.lo ⊕ lo); hi = t.hi }
 unfoldable pub next_log2 : DoubleDouble → DoubleDouble → ℕ → DoubleDouble
 next_log2 v z i = quick_mult (with_term v (from_exact_add v.hi (p i)) (p (i + 1))) z
 
--- the loop runs over entries 11 to 16, and starts with entry 17. So only entry 16 counts (`higher_is` in proofs/higher/Answers.antt).
+-- "In `log2_poly2` the loop over the higher coefficients drops h at each turn": the loop runs over entries 11 to 16, and starts with entry 17. So only entry 16 counts
+-- (`higher_is` in proofs/LogSize.antt).
 unfoldable pub higher : Float → Float
-higher z = dropping_h z (take 6 (drop 11 log2p1_log2_poly)) (p 17)
+higher z = fold (λ h i. dd_fmla z z (p i)) (p 17) (11 ∷ 12 ∷ 13 ∷ 14 ∷ 15 ∷ 16 ∷ [])
 
 -- `log2_poly2`: near log2(1 + z)
 unfoldable pub log2_poly2 : DoubleDouble → DoubleDouble
@@ -101,10 +97,7 @@ highest_exp2 z =
 -- `compoundf_exp2_poly2`: near 2^z
 unfoldable pub compoundf_exp2_poly2 : DoubleDouble → DoubleDouble
 compoundf_exp2_poly2 z =
-    let q7 = highest_exp2 z.hi in
-    let q5 = next_exp2 q7 z 5 in
-    let q3 = next_exp2 q5 z 3 in
-    let q1 = next_exp2 q3 z 1 in
+    let q1 = fold (λ q i. next_exp2 q z i) (highest_exp2 z.hi) (5 ∷ 3 ∷ 1 ∷ []) in
     let q = quick_mult q1 z in
     let t = from_exact_add (q2 0) q.hi in
     record { lo = q.lo ⊕ t.lo; hi = t.hi }
@@ -117,7 +110,7 @@ clamped_index r = min (power_index r) 32
 
 -- "in the scaling a k past 1000 or -1000 counts as that end and a NaN k as 0", which is what `to_signed` makes of a NaN
 unfoldable pub clamped_k : Float → ℤ
-clamped_k k = cond (lt (fin false 125 (pos 3)) k) (pos 1000) (cond (lt k (fin true 125 (pos 3))) (negsuc 999) (to_signed 63 k))
+clamped_k k = cond (lt k (fin true 125 (pos 3))) (negsuc 999) (cond (lt (fin false 125 (pos 3)) k) (pos 1000) (to_signed 63 k))
 
 -- the source's ERR: the bound on the error of q.hi + q.lo, where `small` is false and where it is true
 unfoldable pub err_of : Bool → Float

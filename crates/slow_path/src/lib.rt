@@ -6,9 +6,7 @@ ghost use Rattle.std.specs.Prelude.{◌≡◌, ◌<◌, T};
 ghost use Rattle.std.specs.Float.{binary32};
 ghost use Rattle.std.specs.Float.Ieee.{fits, lt};
 ghost use Rattle.std.specs.Float.Ieee.Scale.{finite};
-ghost use Rattle.floats.specs.Narrowing.{nearest_whole};
 ghost use Rattle.special.specs.Special.{minus_one};
-ghost use Rattle.fast_path.specs.Scaling as scaling;
 ghost use Rattle.fast_path.specs.Fast.{HasInverse};
 ghost use Rattle.slow_path.specs.Slow as spec;
 
@@ -21,8 +19,8 @@ use floats::patterns::{from_bits_f64, to_bits_f64};
 use floats::rounding::round_ties_even;
 use fmla::fmla;
 use tables::{
-    compoundf_exp2_t, compoundf_exp2_u, log2p1_compoundf_inv, log2p1_compoundf_log2_inv,
-    log2p1_log2_poly, log2p1_scale, poly_q2,
+    CompoundfExp2T, CompoundfExp2U, Log2p1CompoundfInv, Log2p1CompoundfLog2Inv, Log2p1Log2Poly,
+    Log2p1Scale, PairTable, PolyQ2, Table,
 };
 
 // v with t, the sum of its hi and a coefficient's, and with the coefficient's lo added to its own.
@@ -42,18 +40,19 @@ fn next_log2(v: DoubleDouble, z: DoubleDouble, i: u64) -> DoubleDouble
     requires { i < 17 }
     ensures { result ≡ spec.next_log2 v z i }
 {
-    let t = DoubleDouble::from_exact_add(v.hi, log2p1_log2_poly(i));
-    DoubleDouble::quick_mult(with_term(v, t, log2p1_log2_poly(i + 1)), z)
+    let t = DoubleDouble::from_exact_add(v.hi, Log2p1Log2Poly::at(i));
+    DoubleDouble::quick_mult(with_term(v, t, Log2p1Log2Poly::at(i + 1)), z)
 }
 
 // The higher coefficients of `log2_poly2`. As in the source each turn drops h, so that only the last
 // one counts.
+#[tactic(auto, unfolding(crate::specs::Slow::higher))]
 fn higher(z: f64) -> f64
     ensures { result ≡ spec.higher z }
 {
-    let mut h = log2p1_log2_poly(17);
-    for i in 7u64..13u64 {
-        h = fmla(z, z, log2p1_log2_poly(4 + i));
+    let mut h = Log2p1Log2Poly::at(17);
+    for i in 7u64..=12 {
+        h = fmla(z, z, Log2p1Log2Poly::at(4 + i));
     }
     h
 }
@@ -65,7 +64,7 @@ fn log2_poly2(z: DoubleDouble) -> DoubleDouble
 {
     let h = higher(z.hi);
     let v = DoubleDouble::quick_mult_f64(z, h);
-    let t = DoubleDouble::from_exact_add(v.hi, log2p1_log2_poly(10));
+    let t = DoubleDouble::from_exact_add(v.hi, Log2p1Log2Poly::at(10));
     let sum = DoubleDouble {
         lo: v.lo + t.lo,
         hi: t.hi,
@@ -77,6 +76,9 @@ fn log2_poly2(z: DoubleDouble) -> DoubleDouble
     v
 }
 
+// 2^-53.
+const LEAST_KEPT: f64 = f64::from_bits(0x3ca0_0000_0000_0000);
+
 // 1 + x, for the f64 of an f32. The source narrows x before it takes |x|, which changes nothing.
 #[tactic(auto, unfolding(crate::specs::Slow::one_plus))]
 fn one_plus(x: f64) -> DoubleDouble
@@ -84,8 +86,8 @@ fn one_plus(x: f64) -> DoubleDouble
     ensures { result ≡ spec.one_plus x }
 {
     if 1.0 >= x {
-        // then 1.0 >= |x| since x > -1; 2^-53
-        if abs(x) >= f64::from_bits(0x3ca0_0000_0000_0000) {
+        // then 1.0 >= |x| since x > -1
+        if abs(x) >= LEAST_KEPT {
             DoubleDouble::from_exact_add(1.0, x)
         } else {
             DoubleDouble { lo: x, hi: 1.0 }
@@ -116,15 +118,11 @@ fn log2_reduced(e: f64, v: DoubleDouble) -> DoubleDouble
     ensures { result ≡ spec.log2_reduced e v }
 {
     let i = inverse_index(v.hi);
-    // This never happens; the test tells the compiler the range, so that the tables need none.
-    if i > 45 {
-        return v;
-    }
-    let r = log2p1_compoundf_inv(i);
+    let r = Log2p1CompoundfInv::at(i);
     // r * (v.hi + v.lo) - 1
     let z = DoubleDouble::from_exact_add(times_minus_one(r, v.hi), r * v.lo);
     let log_p = log2_poly2(z);
-    sum_of_logs(e, log2p1_compoundf_log2_inv(i), log_p)
+    sum_of_logs(e, Log2p1CompoundfLog2Inv::at(i), log_p)
 }
 
 // Near log2(1 + x) for the f64 of an f32 above -1. The source says that the relative error is below
@@ -138,7 +136,7 @@ fn compoundf_log2p1_accurate(x: f64) -> DoubleDouble
     let v = one_plus(x);
     let bits = to_bits_f64(v.hi);
     // 2^-e
-    let scale = log2p1_scale(biased(bits) + 29 - 1023);
+    let scale = Log2p1Scale::at(biased(bits) + 29 - 1023);
     let reduced = DoubleDouble {
         lo: v.lo * scale,
         hi: v.hi * scale,
@@ -153,8 +151,8 @@ fn next_exp2(q: DoubleDouble, z: DoubleDouble, i: u64) -> DoubleDouble
     ensures { result ≡ spec.next_exp2 q z i }
 {
     let m = DoubleDouble::quick_mult(q, z);
-    let t = DoubleDouble::from_exact_add(poly_q2(i), m.hi);
-    with_term(m, t, poly_q2(i + 1))
+    let t = DoubleDouble::from_exact_add(PolyQ2::at(i), m.hi);
+    with_term(m, t, PolyQ2::at(i + 1))
 }
 
 // The terms of `compoundf_exp2_poly2` of degree 4 and above.
@@ -163,11 +161,11 @@ fn highest_exp2(z: f64) -> DoubleDouble
     ensures { result ≡ spec.highest_exp2 z }
 {
     let h2 = z * z;
-    let c7 = fmla(poly_q2(11), z, poly_q2(10));
-    let c5 = fmla(poly_q2(9), z, poly_q2(8));
+    let c7 = fmla(PolyQ2::at(11), z, PolyQ2::at(10));
+    let c5 = fmla(PolyQ2::at(9), z, PolyQ2::at(8));
     let c5 = fmla(c7, h2, c5);
     let z_vqh = c5 * z;
-    DoubleDouble::from_exact_add(poly_q2(7), z_vqh)
+    DoubleDouble::from_exact_add(PolyQ2::at(7), z_vqh)
 }
 
 // Near 2^z.
@@ -175,12 +173,12 @@ fn highest_exp2(z: f64) -> DoubleDouble
 fn compoundf_exp2_poly2(z: DoubleDouble) -> DoubleDouble
     ensures { result ≡ spec.compoundf_exp2_poly2 z }
 {
-    let q7 = highest_exp2(z.hi);
-    let q5 = next_exp2(q7, z, 5);
-    let q3 = next_exp2(q5, z, 3);
-    let q1 = next_exp2(q3, z, 1);
-    let q = DoubleDouble::quick_mult(q1, z);
-    let t = DoubleDouble::from_exact_add(poly_q2(0), q.hi);
+    let mut q = highest_exp2(z.hi);
+    for i in [5u64, 3, 1] {
+        q = next_exp2(q, z, i);
+    }
+    let q = DoubleDouble::quick_mult(q, z);
+    let t = DoubleDouble::from_exact_add(PolyQ2::at(0), q.hi);
     DoubleDouble {
         lo: q.lo + t.lo,
         hi: t.hi,
@@ -188,7 +186,7 @@ fn compoundf_exp2_poly2(z: DoubleDouble) -> DoubleDouble
 }
 
 // The index of the nearest 32nd to r; one below 0 is 0, and one above 32 is 32.
-#[tactic(auto, unfolding(crate::specs::Slow::clamped_index))]
+#[tactic(auto, unfolding(crate::specs::Slow::clamped_index, fast_path::specs::Fast::power_index))]
 fn clamped_index(r: f64) -> u64
     ensures { result ≡ spec.clamped_index r }
 {
@@ -207,7 +205,6 @@ fn clamped_k(k: f64) -> i64
 // The pattern of the rounding test.
 #[tactic(auto, unfolding(crate::specs::Slow::test_pattern))]
 fn test_pattern(q: DoubleDouble, err: f64, k: i64) -> u64
-    requires { scaling.Within 1000 k }
     ensures { result ≡ spec.test_pattern q err k }
 {
     let w = to_bits_f64(q.hi);
@@ -255,7 +252,6 @@ fn rounded_to_odd(q: DoubleDouble, w: u64) -> u64
 // q.hi + q.lo, rounded once, times 2^k.
 #[tactic(auto, unfolding(crate::specs::Slow::scaled_to_f32))]
 fn scaled_to_f32(q: DoubleDouble, err: f64, k: i64) -> f32
-    requires { scaling.Within 1000 k }
     ensures { result ≡ spec.scaled_to_f32 q err k }
 {
     let w = test_pattern(q, err, k);
@@ -269,32 +265,35 @@ fn exp2_product(v: DoubleDouble, i: u64) -> DoubleDouble
     requires { i < 33 }
     ensures { result ≡ spec.exp2_product v i }
 {
-    // This never happens, as above.
-    if i > 32 {
-        return v;
-    }
-    let rest = DoubleDouble::from_exact_add(v.hi - compoundf_exp2_t(i), v.lo);
+    let rest = DoubleDouble::from_exact_add(v.hi - CompoundfExp2T::at(i), v.lo);
     let p = compoundf_exp2_poly2(rest);
-    let q = DoubleDouble::quick_mult(compoundf_exp2_u(i), p);
+    let q = DoubleDouble::quick_mult(CompoundfExp2U::at(i), p);
     DoubleDouble::from_exact_add(q.hi, q.lo)
 }
 
-// The bound on the error of `exp2_product`: the smaller one for the index 16 and h up to 2^-9.
+// The source's ERR, and up to which h the smaller one holds: 2^-9.
+const ERR: f64 = f64::from_bits(0x3abb_1000_0000_0000);
+
+const SMALL_ERR: f64 = f64::from_bits(0x3a2d_8000_0000_0000);
+
+const SMALL: f64 = f64::from_bits(0x3f60_0000_0000_0000);
+
+// The bound on the error of `exp2_product`, h being its exponent, k the nearest whole value to that and
+// i the index.
 #[tactic(auto, unfolding(crate::specs::Slow::err_of, crate::specs::Slow::is_small))]
 fn err_of(k: f64, i: u64, h: f64) -> f64
     ensures { result ≡ spec.err_of (spec.is_small k i h) }
 {
-    if k == 0.0 && i == 16 && h <= f64::from_bits(0x3f60_0000_0000_0000) {
-        f64::from_bits(0x3a2d_8000_0000_0000)
+    if k == 0.0 && i == 16 && h <= SMALL {
+        SMALL_ERR
     } else {
-        f64::from_bits(0x3abb_1000_0000_0000)
+        ERR
     }
 }
 
 // 2^(t.hi + t.lo) for a whole k, where it is not so near 1 that it rounds to 1.
-#[tactic(auto, unfolding(crate::specs::Slow::exp2_away))]
+#[tactic(auto, using(crate::proofs::Clamped::clamped_index_below), unfolding(crate::specs::Slow::exp2_away))]
 fn exp2_away(t: DoubleDouble, k: f64) -> f32
-    requires { nearest_whole k ≡ k }
     ensures { result ≡ spec.exp2_away t k }
 {
     let v = DoubleDouble::from_exact_add(t.hi - k, t.lo);
@@ -303,14 +302,15 @@ fn exp2_away(t: DoubleDouble, k: f64) -> f32
     scaled_to_f32(q, err_of(k, i, t.hi), clamped_k(k))
 }
 
-const NEAR: f64 = f64::from_bits(0x3e67_1547_6af0_d4c8);
+// 2^h rounds to 1 up to this |h|.
+const ROUNDS_TO_ONE: f64 = f64::from_bits(0x3e67_1547_6af0_d4c8);
 
 // Whether 2^h rounds to 1, k being the nearest whole value to h.
 #[tactic(auto, unfolding(crate::specs::Slow::is_near_one))]
 fn is_near_one(k: f64, h: f64) -> bool
     ensures { result ≡ spec.is_near_one k h }
 {
-    k == 0.0 && abs(h) <= NEAR
+    k == 0.0 && abs(h) <= ROUNDS_TO_ONE
 }
 
 // 2^(t.hi + t.lo), rounded to f32.
