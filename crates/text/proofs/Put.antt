@@ -68,4 +68,3 @@ digits_put out at end base k n part h f e =
 pub drop_set : (out : List ℕ) (i b : ℕ) → i < length out → drop i (set out i b) ≡ b ∷ drop (suc i) out
 drop_set out i b h =
     ap (λ (l : List ℕ). drop i l) (set_split out i b h) ∙ drop_at (take i out) (b ∷ drop (suc i) out) i (length-take-le i out (omega arith))
-

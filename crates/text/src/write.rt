@@ -1,6 +1,7 @@
 // Text put at a place of a list of bytes.
 ghost use Rattle.std.specs.Prelude.{◌≡◌, ◌++◌, ◌+◌, ◌≤◌, ℕ, List, [], length};
 ghost use Rattle.std.specs.declared.option.Option.TheVariants.{Some, None};
+ghost use Rattle.std.specs.List.{flat_map};
 ghost use Rattle.text.specs.Bytes.{put};
 ghost use Rattle.text.specs.Digits.{decimal, hex};
 
@@ -72,6 +73,19 @@ impl<A: Text, B: Text, C: Text> Text for (A, B, C) {
     fn put(self, out: &mut [u8], at: usize) -> usize {
         let (a, b, c) = self;
         ((a, b), c).put(out, at)
+    }
+}
+
+// Texts one after another.
+impl<T: Text + Copy, const N: usize> Text for [T; N] {
+    ghost bytes = { flat_map T.bytes };
+
+    fn put(self, out: &mut [u8], at: usize) -> usize {
+        let mut end = at;
+        for text in self {
+            end = text.put(out, end);
+        }
+        end
     }
 }
 
