@@ -4,6 +4,7 @@ use Rattle.std.proofs.Common.{◌≡◌, ℕ, ◌+◌, ◌*◌, ◌%◌, ◌^◌
 use native.Mathlib.Nat.{add-mod_left}
 use lib.Ieee.{Float, nan, inf, fin, Format, binary32, binary64, prec, low, hid, ones, top, neg, fits, is_nan, nan_bits, to_bits, of_bits}
 use lib.Ieee.Bits.{nan_bits_is, of_bits-fits, of_bits-to_bits, to_bits-of_bits}
+use Rattle.std.specs.Float.{float_with_sign}
 use Rattle.floats.specs.OnBits.{absolute}
 use Rattle.floats.proofs.Laws.Nan.{number_of_below}
 use Rattle.floats.proofs.Laws.Place.{place, bits_of_inf}
@@ -100,6 +101,13 @@ absolute_of_bits f (fin s m e) t = magnitude_is f (fin s m e) t tt
 pub absolute_of_nan : (x : Float) → x ≡ nan → x ≡ absolute x
 unfolding absolute
 absolute_of_nan x e = e ∙ sym (ap absolute e)
+
+-- std's `abs` takes off the sign by `float_with_sign`, at a NaN too
+pub sign_off : (x : Float) → float_with_sign false x ≡ absolute x
+unfolding float_with_sign absolute
+sign_off nan = refl
+sign_off (inf s) = refl
+sign_off (fin s m e) = refl
 
 pub absolute_number : (x : Float) → T (not (is_nan x)) → T (not (is_nan (absolute x)))
 unfolding absolute is_nan
