@@ -6,10 +6,12 @@ use mathlib.Core.List.{List, [], ◌∷◌, map}
 use Prim.Native.Nat.{ℕ, zero, suc, ◌+◌, ◌*◌, ◌/◌, ◌%◌, ◌^◌, ◌≤◌, ◌<◌}
 use native.Mathlib.Omega.{arith}
 use native.Mathlib.Nat.{add-zero, add_comm, mul-div_cancel, mul-add-mod_self_right, mod-eq_of_lt, zero-lt-suc}
+use mir.Syntax.{w64}
 use lib.Bits.{bit_and, and_block, and_mask, and_high}
 use lib.Dec.{lit<, lit≤}
 use lib.ListN.{length, get_or, take, drop, replicate, length-drop, drop_of_length-le}
 use lib.Seq.{drop-cons, drop-drop}
+use Rattle.std.specs.Int.{from_le_bytes}
 use Rattle.text.specs.Bytes.{all}
 use Rattle.text.specs.Digits.{is_hex, digit_value, value, value_from, lowest_first}
 use Rattle.text.proofs.Part.{ahead, passed}
@@ -198,6 +200,11 @@ items l i (suc n) = get_or l i 0 ∷ items l (suc i) n
 itemized : (l : List ℕ) (n i : ℕ) → i + n ≡ length l → drop i l ≡ items l i n
 itemized l zero i e = drop_of_length-le l {i = i} (omega arith)
 itemized l (suc n) i e = drop-cons l i 0 (omega arith) ∙ ap (λ (t : List ℕ). get_or l i 0 ∷ t) (itemized l n (suc i) (omega arith))
+
+-- eight bytes, as the library reads them
+pub read_le : (l : List ℕ) → length l ≡ 8 → from_le_bytes w64 l ≡ lowest_first 256 l
+unfolding lowest_first
+read_le l e = let t : from_le_bytes w64 l ≡ lowest_first 256 (items l 0 8) = omega arith in t ∙ ap (lowest_first 256) (sym (itemized l 8 0 (omega (arith, e))))
 
 values_small : (l : List ℕ) → all is_hex l ≡ true → Below 16 (map digit_value l)
 unfolding all
