@@ -8,6 +8,8 @@ ghost use Rattle.std.specs.Float.Ieee.{of_bits};
 ghost use Rattle.special.specs.Special.{is_rule, special};
 ghost use Rattle.special.specs.Rank as spec;
 
+pub mod operands;
+
 // Where a magnitude stands, by its pattern m: 0 for a zero, 1 below the limit, 2 at it, 3 above it. The
 // tests are counted, since the processor could not foresee a branch on them.
 #[tactic(auto, unfolding(crate::specs::Rank::rank))]
