@@ -58,6 +58,7 @@ fn narrow_magnitude(m: u64) -> u64
 
 // The nearest f32 to a positive fraction: from 2^128 - 2^103 up it is infinity, and below that it is
 // finite. There is nothing to run: the contract is the theorem.
+#[tactic(auto, using(crate::proofs::Laws::Overflow::nearest_f32_ends))]
 pub fn nearest_f32_ends()
     ensures { NearestF32Ends }
 {}
