@@ -13,6 +13,7 @@ pub fn scaled(v: u64, k: i64) -> u64
 }
 
 // The exponent's field of v, one more where the digits are those of sqrt(2) or above.
+#[tactic(auto, unfolding(crate::specs::Scaling::biased))]
 pub fn biased(v: u64) -> u64
     ensures { result ≡ spec.biased v }
 {
