@@ -114,6 +114,7 @@ fn rounding_test(v: f64, err: f64) -> Option<f64>
 // `rounding_test` by the patterns w of v and e of err. Where e <= w - 40 * 2^52, err is at most 2^-40
 // of v, and so below 2^13 last places of it, or 2^14 of those below a power of two. If no midpoint of
 // two f32s is that near to v, both bounds narrow to one f32.
+#[tactic(auto, using(crate::proofs::Midpoints::clear_of_midpoints, crate::proofs::Midpoints::below_normal, floats::proofs::Laws::Nan::number_of_below))]
 fn pattern_test(w: u64, e: u64) -> Option<f64>
     ensures { result ≡ spec.rounding_test (f64 w) (f64 e) }
 {
