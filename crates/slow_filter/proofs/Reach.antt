@@ -10,7 +10,6 @@ use lib.Dec.{T, lit≤, lit<}
 use lib.IntN.{pos}
 use lib.Ieee.{Float, nan, inf, fin, binary64, fits, sub, neg, le, ne, of_bits, to_signed}
 use lib.Ieee.Fits.{sub-fits}
-use Rattle.floats.specs.Operations.{f64}
 use Rattle.floats.specs.OnBits.{absolute}
 use Rattle.floats.specs.Narrowing.{nearest_whole}
 use Rattle.special.specs.Special.{one}

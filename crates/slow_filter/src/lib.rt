@@ -96,7 +96,7 @@ fn near_one_found(t: f64) -> Option<f32>
 }
 
 // The plain logarithm of 1 + x.
-#[tactic(auto, using(floats::proofs::Laws::Magnitude::sign_off), unfolding(crate::specs::Plain::plain_log))]
+
 fn plain_log(x: f64) -> f64
     requires { T (lt minus_one x) }
     ensures { result ≡ plain.plain_log x }
@@ -117,7 +117,7 @@ fn in_reach(y: f64, t: f64) -> bool
 }
 
 // And next to 1.
-#[tactic(auto, using(floats::proofs::Laws::Magnitude::sign_off), unfolding(crate::specs::Plain::next_to_one))]
+
 fn next_to_one(y: f64, t: f64) -> bool
     ensures { result ≡ plain.next_to_one y t }
 {

@@ -1,5 +1,5 @@
 -- `near_one_found` meets its contract: the plain value of a t of at most 2^-16 in size is from 1/2 to 2. Assumes nothing.
-use Rattle.std.proofs.Common.{◌-◌, ◌*◌, ◌^◌, ◌≤◌, ◌<◌, not, T, sym, subst, lt_of_lt_of_le, le_trans, lit≤}
+use Rattle.std.proofs.Common.{◌-◌, ◌^◌, not, T, sym, subst, lt_of_lt_of_le, le_trans, lit≤}
 use lib.Ieee.{Float, nan, inf, fin, is_nan}
 use lib.Ieee.Bits.{is_true}
 use lib.Ieee.Scale.{finite}

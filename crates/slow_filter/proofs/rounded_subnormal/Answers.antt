@@ -18,7 +18,7 @@ use Rattle.floats.proofs.Laws.Nan.{number_of_below}
 use Rattle.floats.proofs.Laws.Narrow.{low_finite, low_sum_number, low_sum_over, low_pattern, pattern_fits, pattern_number}
 use Rattle.floats.proofs.Laws.Tests.{first, second}
 use Rattle.fast_path.specs.Scaling.{scaled}
-use Rattle.slow_filter.specs.Subnormal.{BelowNormal, subnormal_sum, rounded_subnormal, subnormal_found}
+use Rattle.slow_filter.specs.Subnormal.{subnormal_sum, rounded_subnormal, subnormal_found}
 use Rattle.slow_filter.proofs.Subnormal.{Below, scaled_below}
 use Rattle.slow_filter.proofs.rounded_subnormal.Goals as goal
 use Rattle.slow_filter.proofs.rounded_subnormal.Goals.{After-scaled-m}
@@ -43,10 +43,6 @@ module _ (c : After-scaled-m) where
     where
       go : (w : ℕ) → w < 897 * 2 ^ 52 → w + 33554432 < 898 * 2 ^ 52
       go w h = omega arith
-
-pub float_from_bits-offset : goal.float_from_bits-offset
-unfolding nan_bits
-float_from_bits-offset c = tt
 
 pub overflow_sub-low : goal.overflow_sub-low
 overflow_sub-low c =

@@ -1,30 +1,64 @@
 -- `subnormal_power` meets its contract: t from -149.5 to -128 can be split, its k is from -150 to -127, and the plain pattern is that of a value from 1/2 to 2. Assumes nothing.
-use Rattle.std.proofs.Common.{◌≡◌, ℕ, ◌*◌, ◌^◌, ◌≤◌, ◌<◌, Bool, true, T, ℤ, None, Option, sym, ◌∙◌, subst}
-use lib.Ieee.{Float, fin, binary64, fits, le, to_bits, to_signed}
+use Rattle.std.proofs.Common.{◌≡◌, true, T, ℤ, pos, negsuc, None, sym, ◌∙◌, ap, ap₂, subst, w64, to_z, of_z}
+use lib.Ieee.{fin, binary64, fits, le, to_signed}
 use lib.Ieee.Bits.{is_true}
 use denote.Floats.{passes}
-use Rattle.floats.specs.Operations.{◌⊗◌}
 use Rattle.floats.specs.Narrowing.{nearest_whole}
 use Rattle.floats.proofs.Laws.Tests.{first, second}
-use Rattle.tables.specs.Tables.{pair_entry, compoundf_exp2_u}
-use Rattle.fast_path.specs.Fast.{power_index}
-use Rattle.filter.specs.Plain.{plain_expf_poly, part_of, rest_of, plain_pattern, clear_of_switches}
+use Rattle.filter.specs.Plain.{part_of, rest_of, plain_pattern, clear_of_switches}
 use Rattle.filter.proofs.NotZero.{not_zero}
 use Rattle.slow_filter.specs.Plain.{switch_gap, subnormal_power}
 use Rattle.slow_filter.specs.Subnormal.{BelowNormal, subnormal_found}
 use Rattle.slow_filter.proofs.Reach.{reach_edges, reach_some, reach_k}
+use Rattle.slow_filter.proofs.BelowNormal.{k_read}
 use Rattle.slow_filter.proofs.Plain.{plain_unscaled}
 use Rattle.slow_filter.proofs.subnormal_power.Goals as goal
-use Rattle.slow_filter.proofs.subnormal_power.Goals.{After-is_clear, After-power, Start}
+use Rattle.slow_filter.proofs.subnormal_power.Goals.{Start, After-of-s, After-is_clear, After-power}
+
+-- t as the contract asks for it
+module _ (c : Start) where
+  held : T (fits binary64 c.args.t)
+  held = passes _ c.well_formed.0.1
+
+  high : le c.args.t (fin true 1 (pos 7)) ≡ true
+  high = is_true _ c.requires.t_most
+
+  low : le (fin true 299 (negsuc 0)) c.args.t ≡ true
+  low = is_true _ c.requires.t_least
 
 pub of-s-requires : goal.of-s-requires
-of-s-requires c = ?
+of-s-requires c =
+    let edges = reach_edges _ (held c) (high c) (low c) in
+    record { t_above = subst T (sym edges.above) tt; t_below = subst T (sym edges.below) tt; not_zero = not_zero _ (reach_some _ (held c) (high c) (low c)) }
+
+-- the results of the calls up to the test, and to the pattern
+module _ (c : After-is_clear) where
+  tested : c.is_clear.result ≡ clear_of_switches switch_gap (part_of c.args.t) (rest_of c.args.t)
+  tested = cc
+
+module _ (c : After-power) where
+  pattern_is : c.power.result ≡ plain_pattern c.args.t
+  unfolding plain_pattern
+  pattern_is = cc
+
+  k_below : BelowNormal (to_signed 63 (nearest_whole c.args.t))
+  k_below = reach_k _ (held c.before.before.before.before) (high c.before.before.before.before) (low c.before.before.before.before)
+
+  k_is : to_z w64 (of_z w64 c.of-s.result.k) ≡ to_signed 63 (nearest_whole c.args.t)
+  k_is = ap (λ (k : ℤ). to_z w64 (of_z w64 k)) c.of-s.ensures.k ∙ k_read _ k_below
 
 pub rounded_subnormal-requires : goal.rounded_subnormal-requires
-rounded_subnormal-requires c = ?
+rounded_subnormal-requires c =
+    let at = goal.at.rounded_subnormal-requires c in
+    let u = plain_unscaled _ (held at.Start) (high at.Start) (low at.Start) (sym (tested at.After-is_clear) ∙ c.if-is_clear.true) in
+    record { w_least = rw (pattern_is at.After-power) u.low; w_below = rw (pattern_is at.After-power) u.high; below_normal = rw (k_is at.After-power) (k_below at.After-power) }
 
 pub returns-then-is_clear : goal.returns-then-is_clear
-returns-then-is_clear c = ?
+unfolding subnormal_power
+returns-then-is_clear c =
+    let at = goal.at.returns-then-is_clear c in
+    c.rounded_subnormal.ensures ∙ ap₂ subnormal_found (pattern_is at.After-power) (k_is at.After-power) ∙ first _ _ None (sym (tested at.After-is_clear) ∙ c.if-is_clear.true)
 
 pub returns-else-is_clear : goal.returns-else-is_clear
-returns-else-is_clear c = ?
+unfolding subnormal_power
+returns-else-is_clear c = second _ _ None (sym (tested (goal.at.returns-else-is_clear c).After-is_clear) ∙ c.if-is_clear.false)
