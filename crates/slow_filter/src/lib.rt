@@ -96,7 +96,6 @@ fn near_one_found(t: f64) -> Option<f32>
 }
 
 // The plain logarithm of 1 + x.
-
 fn plain_log(x: f64) -> f64
     requires { T (lt minus_one x) }
     ensures { result ≡ plain.plain_log x }
@@ -109,7 +108,6 @@ fn plain_log(x: f64) -> f64
 }
 
 // Whether the plain evaluation is near enough below the normal f32s.
-#[tactic(auto, unfolding(crate::specs::Plain::in_reach))]
 fn in_reach(y: f64, t: f64) -> bool
     ensures { result ≡ plain.in_reach y t }
 {
@@ -117,7 +115,6 @@ fn in_reach(y: f64, t: f64) -> bool
 }
 
 // And next to 1.
-
 fn next_to_one(y: f64, t: f64) -> bool
     ensures { result ≡ plain.next_to_one y t }
 {
