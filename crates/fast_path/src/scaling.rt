@@ -5,13 +5,11 @@ ghost use Rattle.std.specs.Float.Ieee.{of_int};
 ghost use Rattle.fast_path.specs.Scaling as spec;
 
 // v + k * 2^52, wrapping: the pattern v with its number times 2^k, where that is a normal number.
+#[tactic(auto, unfolding(crate::specs::Scaling::scaled))]
 pub fn scaled(v: u64, k: i64) -> u64
-    requires { spec.Within 1000 k }
     ensures { result ≡ spec.scaled v k }
 {
-    // k modulo 2^12
-    let j = (k + 0x1000) as u64 % 0x1000;
-    std::num::wrapping_add_u64(v, j * 0x10_0000_0000_0000)
+    v.wrapping_add(k.cast_unsigned().wrapping_mul(0x10_0000_0000_0000))
 }
 
 // The exponent's field of v, one more where the digits are those of sqrt(2) or above.

@@ -12,12 +12,13 @@ use lib.ListN.{length, take, drop, get_or, length-append, take-append-drop, drop
 use lib.Seq.{take_at, drop_at, get_or_at, get_or-drop, drop-drop, drop-cons, drop-append-add}
 use Rattle.text.specs.Bytes.{begins, all, leading}
 use Rattle.text.specs.Digits.{places, decimal, hex, is_decimal, is_hex, value}
-use Rattle.lines.specs.Fields.{key_of}
-use Rattle.lines.specs.Format.{longest, largest_id, id_key, x_key, y_key, space, line_of, InRange, Format}
+use Rattle.lines.specs.Format.{pair, longest, largest_id, id_key, x_key, y_key, space, line_of, InRange, Format}
 use Rattle.lines.specs.Format.{id_digits, is_d, has_id, after_id, hex_digits, has_hex, has_x, after_x, has_y, read_line}
-use Rattle.lines.specs.declared.Line.TheVariants.{Pair}
+use Rattle.std.specs.Prelude.{Result, Ok}
+use Rattle.lines.specs.declared.Pair.{Pair}
+use Rattle.lines.specs.declared.Refusal.{Refusal}
 use Rattle.text.proofs.Numerals.{both, sixteen, length_decimal, length_hex, all_decimal, all_hex, places_monotone, value_below}
-use Rattle.lines.proofs.Ids.{is_d_lem, decimal_is_d, decimal_value, value_decimal}
+use Rattle.lines.proofs.Ids.{leading_tested, is_d_lem, decimal_is_d, decimal_value, value_decimal}
 use Rattle.text.proofs.Numerals.{value_hex, hex_value}
 use Rattle.lines.proofs.Reading.{inside}
 
@@ -30,6 +31,10 @@ leading_all test [] c rest a h = rw h refl
 leading_all test (b ∷ ds) c rest a h =
     let t = both (test b) (all test ds) a in
     rw (t.0, leading_all test ds c rest t.1 h) refl
+
+-- a key, of its byte and `=`
+abbrev key_of : ℕ → List ℕ
+key_of key = key ∷ 61 ∷ []
 
 -- a field of a key and a pattern: it is one, with the pattern's digits, and ends after ten bytes
 module _ (key n : ℕ) (rest : List ℕ) where
@@ -116,7 +121,7 @@ module _ (d x y : ℕ) (r : InRange d x y) where
       append_length : (l : List ℕ) → length (l ++ []) ≡ length l
       append_length l = rw (append-nil l) refl
 
-  read : read_line (from_id d x y) ≡ Pair d x y
+  read : read_line (from_id d x y) ≡ Ok (pair d x y)
   unfolding read_line
   read =
       rw (
@@ -135,7 +140,7 @@ module _ (d x y : ℕ) (r : InRange d x y) where
       )
       refl
 
-  line_accepted : read_line (line_of d x y) ≡ Pair d x y
+  line_accepted : read_line (line_of d x y) ≡ Ok (pair d x y)
   line_accepted = rw (line_parts d x y) read
 
 -- Nothing else is accepted.
@@ -158,15 +163,6 @@ leading_split test (b ∷ l) = go (test b) (leading_split test l)
         → b ∷ l ≡ cond t (b ∷ leading test l) [] ++ drop (length (cond t (b ∷ leading test l) [])) (b ∷ l)
     go true e = ap (λ (m : List ℕ). b ∷ m) e
     go false e = refl
-
-leading_tested : (test : ℕ → Bool) (l : List ℕ) → all test (leading test l) ≡ true
-unfolding leading all
-leading_tested test [] = refl
-leading_tested test (b ∷ l) = go (test b) refl (leading_tested test l)
-  where
-    go : (t : Bool) → test b ≡ t → all test (leading test l) ≡ true → all test (cond t (b ∷ leading test l) []) ≡ true
-    go true e a = rw (e, a) refl
-    go false e a = refl
 
 -- a byte that stands at a place, and what follows it
 spaced : (l : List ℕ) (at : ℕ) → eqb (get_or l at 0) space ≡ true → drop at l ≡ space ∷ drop (at + 1) l
@@ -236,7 +232,10 @@ record Accepted (l : List ℕ) (d x y : ℕ) : Type 0 where
 never : ◌≡◌ {A = ℕ} 0 1 → ⊥
 never z = omega arith
 
-accepted : (l : List ℕ) (d x y : ℕ) → read_line l ≡ Pair d x y → Accepted l d x y
+said : (p q : Pair) → ◌≡◌ {A = Result Pair Refusal} (Ok p) (Ok q) → p ≡ q
+said p q e = cc
+
+accepted : (l : List ℕ) (d x y : ℕ) → read_line l ≡ Ok (pair d x y) → Accepted l d x y
 unfolding read_line
 accepted l d x y e = by (ltb longest (length l)) (has_id l) (has_x (after_id l)) (has_y (after_x (after_id l))) refl refl refl refl
   where
@@ -246,7 +245,17 @@ accepted l d x y e = by (ltb longest (length l)) (has_id l) (has_x (after_id l))
     by false true false false p q r s = absurd (let f = simp (p, q, r, s) at e in let z : ◌≡◌ {A = ℕ} 0 1 = cc in never z)
     by false true false true p q r s = absurd (let f = simp (p, q, r, s) at e in let z : ◌≡◌ {A = ℕ} 0 1 = cc in never z)
     by false true true false p q r s = absurd (let f = simp (p, q, r, s) at e in let z : ◌≡◌ {A = ℕ} 0 1 = cc in never z)
-    by false true true true p q r s = let f = simp (p, q, r, s) at e in record { short = p; id = q; x_field = r; y_field = s; d_is = cc; x_is = cc; y_is = cc }
+    by false true true true p q r s =
+        let f = said _ _ (simp (p, q, r, s) at e) in
+        record {
+          short = p;
+          id = q;
+          x_field = r;
+          y_field = s;
+          d_is = ap (λ (p : Pair). p.id) f;
+          x_is = ap (λ (p : Pair). p.x) f;
+          y_is = ap (λ (p : Pair). p.y) f;
+        }
 
 module _ (l : List ℕ) (d x y : ℕ) (a : Accepted l d x y) where
   x_tests : (has_hex x_key (after_id l) ≡ true) × (eqb (get_or (after_id l) 10 0) space ≡ true)

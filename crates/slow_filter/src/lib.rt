@@ -23,16 +23,9 @@ use floats::rounding::round_ties_even_small;
 use slow_path::compoundf_accurate;
 use tables::{compoundf_exp2_t, poly_q2};
 
-// What is found of a value: the f32 that the slow path rounds it to, or nothing.
-#[derive(Clone, Copy)]
-pub enum SlowFound {
-    Rounded(f32),
-    Unsure,
-}
-
-// The answer of the plain pattern w, from 1/2 to 2, and its k, from -150 to -127, where no midpoint of
-// two f32s is within 2^25 of the scaled pattern.
-fn rounded_subnormal(w: u64, k: i64) -> SlowFound
+// The f32 that the slow path rounds the plain pattern w, from 1/2 to 2, and its k, from -150 to -127, to,
+// where no midpoint of two f32s is within 2^25 of the scaled pattern.
+fn rounded_subnormal(w: u64, k: i64) -> Option<f32>
     requires w_least { 1022 * 2 ^ 52 ≤ w }
     requires w_below { w < 1024 * 2 ^ 52 }
     requires below_normal { spec.BelowNormal k }
@@ -45,9 +38,10 @@ fn rounded_subnormal(w: u64, k: i64) -> SlowFound
     let low = f64::to_bits(f64::from_bits(m - 0x200_0000) + offset);
     let high = f64::to_bits(f64::from_bits(m + 0x200_0000) + offset);
     if low == high {
-        return SlowFound::Rounded(f32::from_bits((low - 0x39e0_0000_0000_0000) as u32));
+        Some(f32::from_bits((low - 0x39e0_0000_0000_0000) as u32))
+    } else {
+        None
     }
-    SlowFound::Unsure
 }
 
 // Whether no switch of k or of the index is near.
@@ -63,7 +57,7 @@ fn wide_of_switches(part: f64, rest: f64) -> bool
 }
 
 // For t from -149.5 to -128.
-fn subnormal_power(t: f64) -> SlowFound
+fn subnormal_power(t: f64) -> Option<f32>
     requires t_most { T (le t slow_to) }
     requires t_least { T (le slow_from t) }
     ensures { result ≡ plain.subnormal_power t }
@@ -73,13 +67,14 @@ fn subnormal_power(t: f64) -> SlowFound
     let i = power_index(part);
     // This never happens; the test tells the compiler the range, so that the tables need none.
     if i > 32 {
-        return SlowFound::Unsure;
+        return None;
     }
     let rest = part - compoundf_exp2_t(i);
     if wide_of_switches(part, rest) {
-        return rounded_subnormal(plain_power(i, rest), k as i64);
+        rounded_subnormal(plain_power(i, rest), k as i64)
+    } else {
+        None
     }
-    SlowFound::Unsure
 }
 
 // Near 2^z for |z| <= 2^-16.
@@ -94,20 +89,21 @@ fn near_one_power(z: f64) -> f64
 // The answer of the plain pattern w, from 1/2 to 2, where no midpoint of two f32s is within 2^3. Of its
 // digits an f32 drops 29, and at a midpoint these are 2^28; 896 * 2^23 is what the exponents' fields
 // differ by.
-fn rounded_near_one(w: u64) -> SlowFound
+fn rounded_near_one(w: u64) -> Option<f32>
     requires w_least { 1022 * 2 ^ 52 ≤ w }
     requires w_below { w < 1024 * 2 ^ 52 }
     ensures { result ≡ near.rounded_near_one w }
 {
     if (w + 0x1000_0008) % 0x2000_0000 > 0x10 {
         let n = (w + 0x1000_0000) / 0x2000_0000 - 0x1_c000_0000;
-        return SlowFound::Rounded(f32::from_bits(n as u32));
+        Some(f32::from_bits(n as u32))
+    } else {
+        None
     }
-    SlowFound::Unsure
 }
 
 // For |t| at most 2^-16.
-fn near_one_found(t: f64) -> SlowFound
+fn near_one_found(t: f64) -> Option<f32>
     requires { T (le (absolute t) plain.next_to) }
     ensures { result ≡ near.near_one_found t }
 {
@@ -121,9 +117,10 @@ fn plain_log(x: f64) -> f64
 {
     // 2^-29: below, 1 + x does not keep x
     if abs(x) >= f64::from_bits(0x3e20_0000_0000_0000) {
-        return plain_log2p1(x);
+        plain_log2p1(x)
+    } else {
+        x * plain_factor(x)
     }
-    x * plain_factor(x)
 }
 
 // Whether the plain evaluation is near enough below the normal f32s.
@@ -145,18 +142,18 @@ fn next_to_one(y: f64, t: f64) -> bool
 }
 
 // What the plain evaluation finds of x and y.
-fn plain_slow(x: f64, y: f64) -> SlowFound
+fn plain_slow(x: f64, y: f64) -> Option<f32>
     requires { T (lt minus_one x) }
     ensures { result ≡ plain.plain_slow x y }
 {
     let t = plain_log(x) * y;
     if in_reach(y, t) {
-        return subnormal_power(t);
+        subnormal_power(t)
+    } else if next_to_one(y, t) {
+        near_one_found(t)
+    } else {
+        None
     }
-    if next_to_one(y, t) {
-        return near_one_found(t);
-    }
-    SlowFound::Unsure
 }
 
 // (1 + x)^y for the route `slow`, as `compoundf_accurate` has it, x and y being the f64s of two finite
@@ -169,8 +166,5 @@ pub fn slow_answer(x: f64, y: f64) -> f32
     requires y_finite { T (finite y) }
     ensures { result ≡ compoundf_accurate x y }
 {
-    match plain_slow(x, y) {
-        SlowFound::Rounded(v) => v,
-        SlowFound::Unsure => compoundf_accurate(x, y),
-    }
+    plain_slow(x, y).unwrap_or_else(|| compoundf_accurate(x, y))
 }

@@ -16,7 +16,7 @@ pub returns-then-w-gt24576 : goal.returns-then-w-gt24576
 returns-then-w-gt24576 c = clear_of_midpoints c.args.w c.args.e (omega (arith, leb-true)) (omega (arith, ltb-true)) (omega (arith, leb-true)) (omega (arith, ltb-true))
 
 pub returns : goal.returns
-returns c = c.rounding_test.ensures ∙ ap₂ rounding_test c.from_bits_f64.ensures c.from_bits_f64-2.ensures
+returns c = c.rounding_test.ensures ∙ ap₂ rounding_test c.f64_from_bits_with_nan.ensures c.f64_from_bits_with_nan-2.ensures
 
 pub overflow_add-w : goal.overflow_add-w
 overflow_add-w c = omega (arith, ltb-true)

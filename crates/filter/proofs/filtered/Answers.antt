@@ -1,5 +1,5 @@
 -- `filtered` meets its contract: the plain logarithm times y is near the fast path's, so it is finite, and what is found of it is right. Assumes nothing.
-use Rattle.std.proofs.Common.{◌≡◌, T, sym, subst}
+use Rattle.std.proofs.Common.{◌≡◌, T, Option, sym, subst}
 use lib.Ieee.{Float, binary32, fits, lt}
 use lib.Ieee.Scale.{finite}
 use Rattle.floats.specs.Operations.{◌⊗◌}
@@ -23,11 +23,11 @@ beside x y a = times_beside (log_beside x a.0 a.1.0 a.1.1.0) (single y a.1.1.1.0
 finite_product : (x y l : Float) → Asked x y → l ≡ plain_log2p1 x → T (finite (l ⊗ y))
 finite_product x y l a e = subst (λ (k : Float). T (finite (k ⊗ y))) (sym e) (beside x y a).beside.plain
 
-right : (x y l : Float) (r : Found) → Asked x y → l ≡ plain_log2p1 x → r ≡ plain_found (l ⊗ y) → Right r (compoundf_log2p1_fast x ⊗ y)
-right x y l r a e d = subst (λ (f : Found). Right f (compoundf_log2p1_fast x ⊗ y)) (sym d) (subst (λ (k : Float). Right (plain_found (k ⊗ y)) (compoundf_log2p1_fast x ⊗ y)) (sym e) (plain_right (beside x y a)))
+right : (x y l : Float) (r : Option Found) → Asked x y → l ≡ plain_log2p1 x → r ≡ plain_found (l ⊗ y) → Right r (compoundf_log2p1_fast x ⊗ y)
+right x y l r a e d = subst (λ (f : Option Found). Right f (compoundf_log2p1_fast x ⊗ y)) (sym d) (subst (λ (k : Float). Right (plain_found (k ⊗ y)) (compoundf_log2p1_fast x ⊗ y)) (sym e) (plain_right (beside x y a)))
 
 pub plain_found-requires : goal.plain_found-requires
-plain_found-requires c = finite_product c.args.x c.args.y _ (c.requires.x_fits, (c.requires.x_finite, (c.requires.x_above, (c.requires.y_fits, c.requires.y_finite)))) c.plain_log2p1-l.ensures
+plain_found-requires c = finite_product c.args.x c.args.y _ (c.requires.x_fits, (c.requires.x_finite, (c.requires.x_above, (c.requires.y_fits, c.requires.y_finite)))) c.log2p1-l.ensures
 
 pub returns : goal.returns
-returns c = right c.args.x c.args.y _ _ (c.requires.x_fits, (c.requires.x_finite, (c.requires.x_above, (c.requires.y_fits, c.requires.y_finite)))) c.plain_log2p1-l.ensures c.plain_found.ensures
+returns c = right c.args.x c.args.y _ _ (c.requires.x_fits, (c.requires.x_finite, (c.requires.x_above, (c.requires.y_fits, c.requires.y_finite)))) c.log2p1-l.ensures c.plain_found.ensures

@@ -24,6 +24,6 @@ pub returns-then-abs : goal.returns-then-abs
 unfolding plain_log of_bits nan_bits
 returns-then-abs c = kept _ _ _ _ c.abs.ensures c.if-abs.true c.plain_log2p1.ensures
 
-pub returns : goal.returns
+pub returns-else-abs : goal.returns-else-abs
 unfolding plain_log of_bits nan_bits
-returns c = lost _ _ _ _ c.abs.ensures c.if-abs.false c.plain_factor.ensures
+returns-else-abs c = lost _ _ _ _ c.abs.ensures c.if-abs.false c.plain_factor.ensures

@@ -1,4 +1,5 @@
 -- `rounded_subnormal` meets its contract: the scaled pattern is from 2^-151 to 2^-126, so that what its sum with 2^-97 has over that of 2^-97 is an f32's pattern. Assumes nothing.
+use Rattle.std.proofs.Common.{None}
 use mathlib.Core.Path.{◌≡◌, sym, ap, ◌∙◌, subst}
 use mathlib.Core.Bool.{Bool, not}
 use Prim.Native.Nat.{ℕ, ◌+◌, ◌-◌, ◌*◌, ◌%◌, ◌^◌, ◌≤◌, ◌<◌}
@@ -17,7 +18,6 @@ use Rattle.floats.proofs.Laws.Narrow.{low_finite, low_sum_number, low_sum_over, 
 use Rattle.floats.proofs.Laws.Tests.{first, second}
 use Rattle.fast_path.specs.Scaling.{scaled, Within}
 use Rattle.fast_path.proofs.Lifted.{within_read, within_cast}
-use Rattle.slow_filter.specs.declared.SlowFound.TheVariants.{Unsure}
 use Rattle.slow_filter.specs.Subnormal.{BelowNormal, subnormal_sum, rounded_subnormal, subnormal_found}
 use Rattle.slow_filter.proofs.Subnormal.{Below, scaled_below}
 use Rattle.slow_filter.proofs.rounded_subnormal.Goals as goal
@@ -103,11 +103,11 @@ overflow_cast-result c = record { fits = result_small _ (less (goal.at.overflow_
 
 pub returns-then-low-high : goal.returns-then-low-high
 unfolding subnormal_found rounded_subnormal subnormal_sum
-returns-then-low-high c = first _ _ Unsure (eq-eqb _ _ c.if-low-high.true) ∙ ap rounded_subnormal (scaled_is (goal.at.returns-then-low-high c).After-scaled-m)
+returns-then-low-high c = first _ _ None (eq-eqb _ _ c.if-low-high.true) ∙ ap rounded_subnormal (scaled_is (goal.at.returns-then-low-high c).After-scaled-m)
 
-pub returns : goal.returns
+pub returns-else-low-high : goal.returns-else-low-high
 unfolding subnormal_found rounded_subnormal subnormal_sum
-returns c = second _ _ Unsure (ne_eqb _ _ c.if-low-high.false) ∙ ap rounded_subnormal (scaled_is (goal.at.returns c).After-scaled-m)
+returns-else-low-high c = second _ _ None (ne_eqb _ _ c.if-low-high.false) ∙ ap rounded_subnormal (scaled_is (goal.at.returns-else-low-high c).After-scaled-m)
 
 pub float_from_bits-low : goal.float_from_bits-low
 float_from_bits-low c = low_number _ (less (goal.at.float_from_bits-low c).After-scaled-m)

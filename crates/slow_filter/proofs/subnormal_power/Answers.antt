@@ -1,5 +1,6 @@
 -- `subnormal_power` meets its contract: for t from -149.5 to -128 the index is inside the table, k can be cast and is from -150 to -127, and the plain pattern is that of a value from 1/2 to 2. Assumes
 -- nothing.
+use Rattle.std.proofs.Common.{Option, None}
 use mathlib.Core.Path.{◌≡◌, sym, ◌∙◌, ap, subst}
 use mathlib.Core.Bool.{Bool, true}
 use Prim.Native.Nat.{ℕ, ◌*◌, ◌^◌, ◌≤◌, ◌<◌}
@@ -19,8 +20,6 @@ use Rattle.fast_path.specs.Fast.{power_index, HasPower}
 use Rattle.fast_path.proofs.Index.{Castable}
 use Rattle.filter.specs.Plain.{plain_expf_poly, part_of, rest_of, plain_pattern}
 use Rattle.filter.proofs.Middle.{plus_zero_lem, whole_small, whole_castable, part_power}
-use Rattle.slow_filter.specs.declared.SlowFound.{SlowFound}
-use Rattle.slow_filter.specs.declared.SlowFound.TheVariants.{Unsure}
 use Rattle.slow_filter.specs.Plain.{wide_of_switches, subnormal_power}
 use Rattle.slow_filter.specs.Subnormal.{BelowNormal, subnormal_found}
 use Rattle.slow_filter.proofs.Reach.{true_of, reach_edges, reach_some, reach_k}
@@ -104,14 +103,14 @@ pub rounded_subnormal-requires : goal.rounded_subnormal-requires
 unfolding nearest of_bits
 rounded_subnormal-requires c = let u = plain_unscaled c.args.t (held (goal.at.rounded_subnormal-requires c).Start) (high (goal.at.rounded_subnormal-requires c).Start) (low (goal.at.rounded_subnormal-requires c).Start) (tests_pass (goal.at.rounded_subnormal-requires c).After-plain_power) in record { w_least = subst (λ (w : ℕ). 1022 * 2 ^ 52 ≤ w) (sym (pattern_is (goal.at.rounded_subnormal-requires c).After-plain_power)) u.low; w_below = subst (λ (w : ℕ). w < 1024 * 2 ^ 52) (sym (pattern_is (goal.at.rounded_subnormal-requires c).After-plain_power)) u.high; below_normal = subst BelowNormal (sym (k_is (goal.at.rounded_subnormal-requires c).After-plain_power)) (below (goal.at.rounded_subnormal-requires c).After-round_ties_even_small-k) }
 
-found : (t : Float) (w : ℕ) (k : ℤ) (r : SlowFound) → w ≡ plain_pattern t → k ≡ to_signed 63 (nearest_whole t) → r ≡ subnormal_found w k → wide_of_switches (part_of t) (rest_of t) ≡ true → r ≡ subnormal_power t
+found : (t : Float) (w : ℕ) (k : ℤ) (r : Option Float) → w ≡ plain_pattern t → k ≡ to_signed 63 (nearest_whole t) → r ≡ subnormal_found w k → wide_of_switches (part_of t) (rest_of t) ≡ true → r ≡ subnormal_power t
 unfolding subnormal_power
-found t w k r e f g h = g ∙ ap (λ (n : ℕ). subnormal_found n k) e ∙ ap (subnormal_found (plain_pattern t)) f ∙ first _ _ Unsure h
+found t w k r e f g h = g ∙ ap (λ (n : ℕ). subnormal_found n k) e ∙ ap (subnormal_found (plain_pattern t)) f ∙ first _ _ None h
 
 pub returns-then-wide_of_switches : goal.returns-then-wide_of_switches
 unfolding nearest of_bits
 returns-then-wide_of_switches c = found _ _ _ _ (pattern_is (goal.at.returns-then-wide_of_switches c).After-plain_power) (k_is (goal.at.returns-then-wide_of_switches c).After-plain_power) c.rounded_subnormal.ensures (tests_pass (goal.at.returns-then-wide_of_switches c).After-plain_power)
 
-pub returns : goal.returns
+pub returns-else-wide_of_switches : goal.returns-else-wide_of_switches
 unfolding subnormal_power
-returns c = second _ _ Unsure (sym (tested_parts c.args.t _ _ _ _ (part_is (goal.at.returns c).After-round_ties_even_small-k) c.power_index-i.ensures c.compoundf_exp2_t.ensures c.wide_of_switches.ensures) ∙ c.if-wide_of_switches.false)
+returns-else-wide_of_switches c = second _ _ None (sym (tested_parts c.args.t _ _ _ _ (part_is (goal.at.returns-else-wide_of_switches c).After-round_ties_even_small-k) c.power_index-i.ensures c.compoundf_exp2_t.ensures c.wide_of_switches.ensures) ∙ c.if-wide_of_switches.false)

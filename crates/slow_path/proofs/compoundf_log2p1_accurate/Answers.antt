@@ -45,8 +45,8 @@ overflow_sub-biased c =
     let range = field_range c.args.x _ _ _ (c.requires.x_fits, (c.requires.x_finite, c.requires.x_above)) c.one_plus-v.ensures c.to_bits_f64-bits.ensures c.biased.ensures in
     omega (arith, range.0)
 
-pub log2p1_scale-scale-requires : goal.log2p1_scale-scale-requires
-log2p1_scale-scale-requires c =
+pub at-scale-requires : goal.at-scale-requires
+at-scale-requires c =
     let range = field_range c.args.x _ _ _ (c.requires.x_fits, (c.requires.x_finite, c.requires.x_above)) c.one_plus-v.ensures c.to_bits_f64-bits.ensures c.biased.ensures in
     omega (arith, range.1)
 
@@ -62,7 +62,7 @@ pub log2_reduced-requires : goal.log2_reduced-requires
 log2_reduced-requires c =
     let index = accurate_index c.args.x c.requires.x_fits c.requires.x_finite c.requires.x_above in
     subst HasInverse
-    (sym (product_is c.args.x _ _ _ _ c.one_plus-v.ensures c.to_bits_f64-bits.ensures c.biased.ensures c.log2p1_scale-scale.ensures))
+    (sym (product_is c.args.x _ _ _ _ c.one_plus-v.ensures c.to_bits_f64-bits.ensures c.biased.ensures c.at-scale.ensures))
     index.1
 
 -- the results of the calls together are the definition
@@ -74,4 +74,4 @@ together x v bits b s e r e1 e2 e3 e4 e5 e6 = cc
 pub returns : goal.returns
 returns c =
     together c.args.x _ _ _ _ _ _ c.one_plus-v.ensures c.to_bits_f64-bits.ensures
-    c.biased.ensures c.log2p1_scale-scale.ensures c.exponent.ensures c.log2_reduced.ensures
+    c.biased.ensures c.at-scale.ensures c.exponent.ensures c.log2_reduced.ensures

@@ -133,10 +133,10 @@ pub factor-requires-2 : goal.factor-requires-2
 unfolding of_bits
 factor-requires-2 c = acc_number (goal.at.factor-requires-2 c).Start _ c.squarings-acc.ensures
 
-pub narrow_branchless-requires : goal.narrow_branchless-requires
+pub narrow_number-requires : goal.narrow_number-requires
 unfolding of_bits
-narrow_branchless-requires c = narrowable (goal.at.narrow_branchless-requires c).Start _ c.squarings-acc.ensures _ _ c.factor.ensures c.factor-2.ensures
+narrow_number-requires c = narrowable (goal.at.narrow_number-requires c).Start _ c.squarings-acc.ensures _ _ c.factor.ensures c.factor-2.ensures
 
 pub returns : goal.returns
 unfolding of_bits
-returns c = c.narrow_branchless.ensures ∙ answer (goal.at.returns c).Start _ c.squarings-acc.ensures _ _ c.factor.ensures c.factor-2.ensures
+returns c = c.narrow_number.ensures ∙ answer (goal.at.returns c).Start _ c.squarings-acc.ensures _ _ c.factor.ensures c.factor-2.ensures
