@@ -4,9 +4,9 @@ use mathlib.Core.Path.{◌≡◌, refl, sym, ap, ap₂, ◌∙◌, subst}
 use mathlib.Core.Bool.{Bool, true, false, cond}
 use Prim.Native.Nat.{ℕ, zero, suc, ◌+◌, ◌-◌, ◌*◌, ◌/◌, ◌%◌, ◌^◌, ◌≤◌, ◌<◌}
 use native.Mathlib.Omega.{arith}
-use borrow.Author.Tests.{lt-ltb, le-ltb, ne_eqb}
 use lib.Ieee.{Float, nan, binary32, is_nan, lt, le, eq, of_bits}
 use Rattle.std.proofs.Common.{List, map, get_or}
+use Rattle.std.proofs.lemmas.Bool.Decides.{nat_tests}
 use Rattle.std.specs.List.{range_with_len}
 use Rattle.std.proofs.lemmas.List.FromFn.{get_or-map-range_with_len}
 use Rattle.special.specs.Special.{is_zero, from_minus_one_to_zero, special_table, first_that_fits, special}
@@ -18,11 +18,11 @@ use Rattle.floats.proofs.Laws.Compare.{Order, less, same, more, order}
 -- ---- the ranks
 under : (m limit : ℕ) → 0 < m → m < limit → rank m limit ≡ 1
 unfolding rank
-under m limit h k = simp (ne_eqb m 0 (omega (arith, h)), lt-ltb m limit k)
+under m limit h k = grind (arith, nat_tests)
 
 over : (m limit : ℕ) → limit < m → rank m limit ≡ 3
 unfolding rank
-over m limit h = simp (ne_eqb m 0 (omega (arith, h)), le-ltb m limit (omega (arith, h)), ne_eqb m limit (omega (arith, h)))
+over m limit h = grind (arith, nat_tests)
 
 -- ---- the classes, for the sign's bit s and the magnitude m
 abbrev spot_x : ℕ → ℕ → ℕ
