@@ -132,10 +132,13 @@ row m n h k r q e d =
     ∙ answer_y (of_bits binary32 m) (of_bits binary32 n) (row_y (spot_y (n / 2 ^ 31) (n % 2 ^ 31))) (y_row n k)
 
 -- all of them
-abbrev pub answers : List (List Float)
-answers = map (λ (a : ℕ). map (λ (b : ℕ). special (typical_x (row_x a)) (typical_y (row_y b))) (range_with_len 0 8)) (range_with_len 0 8)
+abbrev answer : ℕ → Float
+answer i = special (typical_x (row_x (i / 8))) (typical_y (row_y (i % 8)))
 
-pub looked_up : (a b : ℕ) (d : List Float) (e : Float) → a < 8 → b < 8 → get_or (get_or answers a d) b e ≡ special (typical_x (row_x a)) (typical_y (row_y b))
-looked_up a b d e h k =
-    ap (λ (l : List Float). get_or l b e) (get_or-map-range_with_len (λ (a : ℕ). map (λ (b : ℕ). special (typical_x (row_x a)) (typical_y (row_y b))) (range_with_len 0 8)) 0 8 a a d h (omega arith))
-    ∙ get_or-map-range_with_len (λ (b : ℕ). special (typical_x (row_x a)) (typical_y (row_y b))) 0 8 b b e k (omega arith)
+abbrev pub answers : List Float
+answers = map answer (range_with_len 0 64)
+
+pub looked_up : (a b : ℕ) (d : Float) → a < 8 → b < 8 → get_or answers (a * 8 + b) d ≡ special (typical_x (row_x a)) (typical_y (row_y b))
+looked_up a b d h k =
+    get_or-map-range_with_len answer 0 64 (a * 8 + b) (a * 8 + b) d (omega arith) (omega arith)
+    ∙ ap₂ (λ (a b : ℕ). special (typical_x (row_x a)) (typical_y (row_y b))) (omega arith) (omega arith)

@@ -26,24 +26,24 @@ const INF: f32 = f32::INFINITY;
 // What the special table answers: a row for each of the eight classes of x, by the sign and the rank,
 // and in it the eight classes of y: +0, above 0 and finite, +infinity, NaN; -0, below 0 and finite,
 // -infinity, NaN. Where no row of the special table fits it is a NaN, but `f_compoundf` does not ask
-// then. The classes are numbers from ranges of patterns, so that an answer is one lookup.
-static ANSWERS: [[f32; 8]; 8] = [
+// then. The classes are numbers from ranges of patterns, and no enum: so an answer is one lookup.
+static ANSWERS: [f32; 64] = [
     // +0
-    [1.0, 1.0, 1.0, NAN, 1.0, 1.0, 1.0, NAN],
+    1.0, 1.0, 1.0, NAN, 1.0, 1.0, 1.0, NAN,
     // above 0 and finite
-    [1.0, NAN, INF, NAN, 1.0, NAN, 0.0, NAN],
+    1.0, NAN, INF, NAN, 1.0, NAN, 0.0, NAN,
     // +infinity
-    [1.0, INF, INF, NAN, 1.0, 0.0, 0.0, NAN],
+    1.0, INF, INF, NAN, 1.0, 0.0, 0.0, NAN,
     // NaN
-    [NAN, NAN, NAN, NAN, NAN, NAN, NAN, NAN],
+    NAN, NAN, NAN, NAN, NAN, NAN, NAN, NAN,
     // -0
-    [1.0, 1.0, 1.0, NAN, 1.0, 1.0, 1.0, NAN],
+    1.0, 1.0, 1.0, NAN, 1.0, 1.0, 1.0, NAN,
     // between -1 and 0
-    [1.0, NAN, 0.0, NAN, 1.0, NAN, INF, NAN],
+    1.0, NAN, 0.0, NAN, 1.0, NAN, INF, NAN,
     // -1
-    [1.0, 0.0, 0.0, NAN, 1.0, INF, INF, NAN],
+    1.0, 0.0, 0.0, NAN, 1.0, INF, INF, NAN,
     // below -1 or NaN
-    [NAN, NAN, NAN, NAN, NAN, NAN, NAN, NAN],
+    NAN, NAN, NAN, NAN, NAN, NAN, NAN, NAN,
 ];
 
 // The answer of the special table, for the patterns of x and y.
@@ -54,7 +54,7 @@ pub fn as_compoundf_special(nx: u32, ny: u32) -> f32
     let sy = ny / 0x8000_0000;
     let x = sx * 4 + rank(nx % 0x8000_0000, 0x7f80_0000 - sx * 0x4000_0000);
     let y = sy * 4 + rank(ny % 0x8000_0000, 0x7f80_0000);
-    ANSWERS[x as usize][y as usize]
+    ANSWERS[(x * 8 + y) as usize]
 }
 
 // Whether x and y take the route `rule`, as `f_compoundf` has it: x <= -1 or a negative NaN, or one

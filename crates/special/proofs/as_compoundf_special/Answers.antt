@@ -7,4 +7,4 @@ use Rattle.special.proofs.as_compoundf_special.Goals as goal
 
 pub returns : goal.returns
 unfolding special special_table first_that_fits is_nan is_zero from_minus_one_to_zero lt le eq of_bits
-returns c = looked_up _ _ _ _ (search rules) (search rules) ∙ row c.args.nx c.args.ny (search rules) (search rules) _ _ c.rank.ensures.value c.rank-2.ensures.value
+returns c = looked_up _ _ _ (search rules) (search rules) ∙ row c.args.nx c.args.ny (search rules) (search rules) _ _ c.rank.ensures.value c.rank-2.ensures.value
