@@ -23,6 +23,7 @@ use crate::split::{Split, clear_of_index};
 use fast_path::evaluation::{log2p1, power};
 use fast_path::scaling::scaled;
 use floats::common::is_within;
+use special::operands::Operands;
 
 pub mod midpoints;
 pub mod plain;
@@ -168,15 +169,10 @@ fn plain_found(t: f64) -> Option<Found>
     middle_found(t)
 }
 
-// What is found of x and y, the f64s of two finite f32s.
-pub fn filtered(x: f64, y: f64) -> Option<Found>
-    requires x_fits { T (fits binary32 x) }
-    requires x_finite { T (finite x) }
-    requires x_above { T (lt minus_one x) }
-    requires y_fits { T (fits binary32 y) }
-    requires y_finite { T (finite y) }
-    ensures { Right result (compoundf_log2p1_fast x ⊗ y) }
+// What is found of x and y.
+pub fn filtered(pair: Operands) -> Option<Found>
+    ensures { Right result (compoundf_log2p1_fast pair.x ⊗ pair.y) }
 {
-    let l = log2p1::<Plain>(x);
-    plain_found(l * y)
+    let l = log2p1::<Plain>(pair.x);
+    plain_found(l * pair.y)
 }

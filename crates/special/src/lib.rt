@@ -108,6 +108,7 @@ pub fn as_compoundf_special(nx: u32, ny: u32) -> f32
 
 // Whether x and y take the route `rule`, as `f_compoundf` has it: x <= -1 or a negative NaN, or one
 // of the two a zero, an infinity or a NaN.
+#[tactic(auto, using(crate::proofs::Rule::rule_of_patterns))]
 pub fn is_rule(nx: u32, ny: u32) -> bool
     ensures { result ≡ is_rule (of_bits binary32 nx) (of_bits binary32 ny) }
 {
