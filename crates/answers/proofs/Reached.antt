@@ -13,7 +13,8 @@ use Rattle.floats.specs.Operations.{◌⊗◌}
 use Rattle.floats.specs.OnBits.{absolute}
 use Rattle.floats.proofs.Laws.Sums.{SizeAtMost}
 use Rattle.bounds.proofs.Compared.{at_most}
-use Rattle.compound.specs.Answer.{Via, rule, whole, edge, fast, slow}
+use Rattle.compound.specs.declared.Route.{Route}
+use Rattle.compound.specs.declared.Route.TheVariants.{Rule as rule, Whole as whole, Edge as edge, Fast as fast, Slow as slow}
 use Rattle.special.specs.Special as Special
 use Rattle.special.specs.Special.{is_rule, special}
 use Rattle.whole.specs.Whole as Whole
@@ -24,7 +25,7 @@ use Rattle.answers.specs.Reached.{TNumber, slow_k, slow_rest, IndexInside, KInsi
 use Rattle.answers.proofs.Slow.SlowSign.{exponent_number, slow_index, slow_k_lem}
 
 -- ---- the tests that an answer of the route `slow` has failed
-is_slow : Via → Bool
+is_slow : Route → Bool
 is_slow rule = false
 is_slow whole = false
 is_slow edge = false

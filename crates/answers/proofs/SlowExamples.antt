@@ -10,7 +10,7 @@ use Rattle.floats.specs.Narrowing.{narrowed, nearest_whole}
 use Rattle.floats.specs.OnBits.{absolute, is_integer}
 use Rattle.double_double.specs.DoubleDouble.{split, from_exact_mult, from_exact_add, from_full_exact_add, quick_mult, quick_mult_f64, full_add_f64, dd_fmla}
 use Rattle.tables.specs.Tables.{entry, from_bit_pair, pair_entry, log2p1_compoundf_inv, log2p1_compoundf_log2_inv, compoundf_exp2_t, compoundf_exp2_u, log2p1_scale, log2p1_poly_p, expf_poly_q, log2p1_log2_poly}
-use Rattle.compound.specs.Answer.{slow}
+use Rattle.compound.specs.declared.Route.TheVariants.{Slow as slow}
 use Rattle.special.specs.Special.{is_zero, is_special, is_rule}
 use Rattle.whole.specs.Whole.{is_whole}
 use Rattle.fast_path.specs.Scaling.{scaled, biased, exponent_of}

@@ -24,7 +24,8 @@ use Rattle.bounds.proofs.Compared.{le_units, le_true, units_of_le}
 use Rattle.filter.specs.declared.Found.TheVariants.{One}
 use Rattle.filter.proofs.Times.{single}
 use Rattle.filter.proofs.Edges.{nil_at_one}
-use Rattle.compound.specs.Answer.{Outcome, edge}
+use Rattle.compound.specs.declared.Route.TheVariants.{Edge as edge}
+use Rattle.compound.specs.Answer.{Outcome}
 use Rattle.compound.specs.Route.{Tabled, table_path}
 use Rattle.compound.proofs.Filtered.{by_one}
 

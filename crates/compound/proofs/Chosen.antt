@@ -7,7 +7,8 @@ use lib.IntN.{pos}
 use lib.Ieee.{Float, fin, binary64, to_bits, lt, le}
 use Rattle.special.specs.Special as Special
 use Rattle.fast_path.specs.Fast.{exp2_fast}
-use Rattle.compound.specs.Answer.{Outcome, edge}
+use Rattle.compound.specs.declared.Route.TheVariants.{Edge as edge}
+use Rattle.compound.specs.Answer.{Outcome}
 use Rattle.compound.specs.Route.{decided, from_logarithm}
 
 -- the definition's choice by its three tests

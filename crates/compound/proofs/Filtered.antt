@@ -9,7 +9,8 @@ use Rattle.slow_path.specs.Slow.{compoundf_accurate}
 use Rattle.filter.specs.declared.Found.{Found}
 use Rattle.filter.specs.declared.Found.TheVariants as found
 use Rattle.filter.specs.Right.{Right}
-use Rattle.compound.specs.Answer.{Outcome, edge, fast, slow}
+use Rattle.compound.specs.declared.Route.TheVariants.{Edge as edge, Fast as fast, Slow as slow}
+use Rattle.compound.specs.Answer.{Outcome}
 use Rattle.compound.specs.Route.{decided, table_path}
 use Rattle.compound.proofs.Chosen.{known}
 

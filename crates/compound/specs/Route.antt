@@ -7,7 +7,8 @@ use Rattle.floats.specs.Operations.{◌⊗◌}
 use Rattle.floats.specs.Narrowing.{narrowed}
 use Rattle.fast_path.specs.declared.Exp2.{Exp2}
 use Rattle.fast_path.specs.declared.Exp2.TheVariants.{Rounded, Failed}
-use Rattle.compound.specs.Answer.{Outcome, rule, whole, edge, fast, slow}
+use Rattle.compound.specs.declared.Route.TheVariants.{Rule as rule, Whole as whole, Edge as edge, Fast as fast, Slow as slow}
+use Rattle.compound.specs.Answer.{Outcome}
 use Rattle.special.specs.Special as Special
 use Rattle.whole.specs.Whole as Whole
 use Rattle.fast_path.specs.Fast.{compoundf_log2p1_fast, exp2_fast}

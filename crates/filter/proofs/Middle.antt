@@ -1,7 +1,7 @@
 -- For t from -124 to 124: its nearest whole number can be cast, what is left of it has a power, and where it is clear of the switches the scaled pattern is that of a normal f32's
 -- value (`scaled_range`). Assumes nothing.
-use Rattle.std.proofs.Common.{◌≡◌, ℕ, zero, suc, ◌+◌, ◌-◌, ◌*◌, ◌^◌, ◌<◌, ◌≤◌, Bool, true, false, ◌&&◌, T, ℤ, pos, sym, refl, subst, inl, inr, true≢false, le_trans, le_of_eq, lt_irrefl, zero-lt-suc, zero-mul, arith, lit<, lit≤}
-use lib.Ieee.{Float, nan, inf, fin, binary64, fits, neg, le, lt, of_bits, to_signed}
+use Rattle.std.proofs.Common.{◌≡◌, ℕ, zero, suc, ◌+◌, ◌-◌, ◌*◌, ◌^◌, ◌<◌, ◌≤◌, Bool, true, false, ◌&&◌, T, ℤ, pos, sym, refl, subst, inl, inr, true≢false, le_trans, le_of_eq, lt_irrefl, lt_of_lt_of_le, zero-lt-suc, zero-mul, arith, lit<, lit≤}
+use lib.Ieee.{Float, nan, inf, fin, binary64, fits, sub, neg, le, lt, eq, of_bits, to_signed}
 use lib.Ieee.Bits.{is_true}
 use lib.Ieee.Fits.{sub-fits}
 use lib.Ieee.Scale.{finite}
@@ -12,6 +12,7 @@ use Rattle.floats.proofs.Laws.Sums.{SizeAtMost, whole_at_most}
 use Rattle.floats.proofs.Laws.Cast.{whole_fits}
 use Rattle.floats.proofs.Laws.SmallWhole.{plus_zero, small_of_size, NotMinusZero, left_over}
 use Rattle.floats.proofs.Laws.Units.{HasSign, exponent}
+use Rattle.special.specs.Special as Special
 use Rattle.tables.specs.Tables.{entry, compoundf_exp2_t}
 use Rattle.fast_path.specs.Scaling.{scaled, Within}
 use Rattle.fast_path.specs.Fast.{power_index, HasPower}
@@ -22,9 +23,10 @@ use Rattle.bounds.proofs.Scales.{S, one_is, Bound, at}
 use Rattle.bounds.proofs.Distances.{apart_at}
 use Rattle.bounds.proofs.Apart.{apart_same}
 use Rattle.bounds.proofs.Compared.{units_in_size, units_of_not_lt}
-use Rattle.filter.specs.Plain.{part_of, rest_of, plain_pattern, part_end, rest_end, clear_of_index, clear_of_switches, is_tiny}
+use Rattle.filter.specs.Plain.{part_of, rest_of, plain_pattern, switch_gap, part_end, rest_end, clear_of_switches, is_tiny, Middle}
 use Rattle.filter.proofs.Limits.{InsideEdges, inside_edges, middle_bound, part_bound, rest_bound}
 use Rattle.filter.proofs.Power.{Unscaled, power_beside}
+use Rattle.filter.proofs.NotZero.{not_zero}
 use Rattle.filter.proofs.Accepted.{lifted_low, lifted_high, scaled_is}
 
 -- the scaled pattern
@@ -38,10 +40,10 @@ scaled_range b k u w = go b (lifted k) (scaled b k) u.low u.high (lifted_low k w
 -- |t| is 2^-300 at least
 pub not_small : {t : Float} → Number t → is_tiny t ≡ false → 2 ^ 774 ≤ mag t
 unfolding is_tiny
-not_small {t} n h = go (lt (f64 0xad30000000000000) t) refl (lt t (f64 0x2d30000000000000)) refl h
+not_small {t} n h = go (lt (neg (f64 0x2d30000000000000)) t) refl (lt t (f64 0x2d30000000000000)) refl h
   where
-    below : Number (f64 0xad30000000000000) × (plus (f64 0xad30000000000000) ≡ 0) × (less (f64 0xad30000000000000) ≡ 2 ^ 774)
-    below = unfold of_bits fits in (record { held = tt; plain = tt }, refl, refl)
+    below : Number (neg (f64 0x2d30000000000000)) × (plus (neg (f64 0x2d30000000000000)) ≡ 0) × (less (neg (f64 0x2d30000000000000)) ≡ 2 ^ 774)
+    below = unfold of_bits neg fits in (record { held = tt; plain = tt }, refl, refl)
 
     above : Number (f64 0x2d30000000000000) × (less (f64 0x2d30000000000000) ≡ 0) × (plus (f64 0x2d30000000000000) ≡ 2 ^ 774)
     above = unfold of_bits fits in (record { held = tt; plain = tt }, refl, refl)
@@ -52,10 +54,10 @@ not_small {t} n h = go (lt (f64 0xad30000000000000) t) refl (lt t (f64 0x2d30000
     from_above : (p n q k w : ℕ) → k ≡ 0 → q ≡ w → q + n ≤ p + k → w ≤ p + n
     from_above p n q k w e f h = omega arith
 
-    go : (x : Bool) → lt (f64 0xad30000000000000) t ≡ x → (y : Bool) → lt t (f64 0x2d30000000000000) ≡ y → (x && y) ≡ false → 2 ^ 774 ≤ mag t
+    go : (x : Bool) → lt (neg (f64 0x2d30000000000000)) t ≡ x → (y : Bool) → lt t (f64 0x2d30000000000000) ≡ y → (x && y) ≡ false → 2 ^ 774 ≤ mag t
     go true e true f h = absurd (true≢false h)
     go true e false f h = from_above (plus t) (less t) (plus (f64 0x2d30000000000000)) (less (f64 0x2d30000000000000)) (2 ^ 774) above.1 above.2 (units_of_not_lt n above.0 f)
-    go false e y f h = from_below (plus t) (less t) (plus (f64 0xad30000000000000)) (less (f64 0xad30000000000000)) (2 ^ 774) below.1 below.2 (units_of_not_lt below.0 n e)
+    go false e y f h = from_below (plus t) (less t) (plus (neg (f64 0x2d30000000000000))) (less (neg (f64 0x2d30000000000000))) (2 ^ 774) below.1 below.2 (units_of_not_lt below.0 n e)
 
 -- what is not 0 is not -0, and its nearest whole number with +0 in the place of -0 leaves the same
 pub plus_zero_lem : (t : Float) → 0 < mag t → t ⊖ (nearest_whole t ⊕ plus_zero) ≡ t ⊖ nearest_whole t
@@ -117,6 +119,18 @@ module _ (t : Float) (f : T (fits binary64 t)) (edges : InsideEdges t) where
 pub edges_of : {t : Float} → Bound S (124 * 2 ^ 53) t → InsideEdges t
 edges_of b = inside_edges (at (125 * 2 ^ 53) b tt)
 
+-- what is asked of a t that is split in two steps
+pub record Splits (t : Float) : Type 0 where
+  pub above : T (lt (fin true 75 (pos 1)) t)
+  pub below : T (lt t (fin false 1 (pos 7)))
+  pub other : eq t Special.zero ≡ false
+
+pub middle_splits : (t : Float) → T (fits binary64 t) → Middle t → Splits t
+middle_splits t f m =
+    let b = bounded t f m.least m.most in
+    let edges = edges_of b in
+    record { above = subst T (sym edges.above) tt; below = subst T (sym edges.below) tt; other = not_zero t (lt_of_lt_of_le (lit< tt) (not_small b.number m.apart)) }
+
 module _ (t : Float) (b : Bound S (124 * 2 ^ 53) t) where
   small : SizeAtMost 124 t
   small = units_in_size 124 t b.number (le_trans b.size (le_of_eq (go S per_one one_is)))
@@ -136,13 +150,13 @@ module _ (t : Float) (b : Bound S (124 * 2 ^ 53) t) where
   rest_fits = sub-fits binary64 (part_of t) (entry compoundf_exp2_t (power_index (part_of t)))
 
   -- clear of the switches
-  pub switch_bounds : clear_of_switches (part_of t) (rest_of t) ≡ true → Bound S (2 ^ 52 - 2 ^ 23) (part_of t) × Bound S (2 ^ 47 - 2 ^ 23) (rest_of t)
-  unfolding clear_of_switches clear_of_index of_bits neg
+  pub switch_bounds : clear_of_switches switch_gap (part_of t) (rest_of t) ≡ true → Bound S (2 ^ 52 - 2 ^ 23) (part_of t) × Bound S (2 ^ 47 - 2 ^ 23) (rest_of t)
+  unfolding of_bits sub neg
   switch_bounds e =
-      let o = four (le (part_of t) part_end) (le (neg part_end) (part_of t)) (le (rest_of t) rest_end) (le (neg rest_end) (rest_of t)) e in
-      (part_bound (of_tests (part_of t) (neg part_end) part_end part_fits tt tt o.1 o.0) o.0 o.1, rest_bound (of_tests (rest_of t) (neg rest_end) rest_end rest_fits tt tt o.3 o.2) o.2 o.3)
+      let o = four (le (part_of t) (part_end switch_gap)) (le (neg (part_end switch_gap)) (part_of t)) (le (rest_of t) (rest_end switch_gap)) (le (neg (rest_end switch_gap)) (rest_of t)) e in
+      (part_bound (of_tests (part_of t) (neg (part_end switch_gap)) (part_end switch_gap) part_fits tt tt o.1 o.0) o.0 o.1, rest_bound (of_tests (rest_of t) (neg (rest_end switch_gap)) (rest_end switch_gap) rest_fits tt tt o.3 o.2) o.2 o.3)
 
-  pub plain_range : clear_of_switches (part_of t) (rest_of t) ≡ true → (898 * 2 ^ 52 ≤ scaled (plain_pattern t) (to_signed 63 (nearest_whole t))) × (scaled (plain_pattern t) (to_signed 63 (nearest_whole t)) < 1148 * 2 ^ 52)
+  pub plain_range : clear_of_switches switch_gap (part_of t) (rest_of t) ≡ true → (898 * 2 ^ 52 ≤ scaled (plain_pattern t) (to_signed 63 (nearest_whole t))) × (scaled (plain_pattern t) (to_signed 63 (nearest_whole t)) < 1148 * 2 ^ 52)
   plain_range e =
       let o = switch_bounds e in
       let s = signed t b.number.plain in

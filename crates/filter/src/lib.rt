@@ -17,17 +17,30 @@ ghost use Rattle.fast_path.specs.Fast.{compoundf_log2p1_fast};
 ghost use Rattle.filter.specs.Plain as spec;
 ghost use Rattle.filter.specs.Right.{Right};
 
-use crate::plain::{plain_log2p1, plain_power};
-use fast_path::power_index;
+use crate::midpoints::{clear_of_midpoints, narrowed_pattern};
+use crate::plain::Plain;
+use crate::split::{Split, clear_of_index};
+use fast_path::evaluation::{log2p1, power};
 use fast_path::scaling::scaled;
-use floats::rounding::round_ties_even_small;
-use tables::compoundf_exp2_t;
+use floats::common::is_within;
+use special::operands::Operands;
 
+pub mod midpoints;
 pub mod plain;
+pub mod split;
+
+// 2^-30: further than this from a switch of k or of the index, the fast path's own t is on the same side of
+// it.
+const SWITCH_GAP: f64 = f64::from_bits(0x3e10_0000_0000_0000);
+
+// 2^-14
+const NEAR_0: f64 = f64::from_bits(0x3f10_0000_0000_0000);
+
+// 2^-300
+const TINY: f64 = f64::from_bits(0x2d30_0000_0000_0000);
 
 // What is found of a pair: the fast answer; that the fast path fails its tests, so that the answer is
-// the slow one; that t is at the lower edge, at the upper edge, or so small that the answer is 1; or
-// nothing.
+// the slow one; that t is at the lower edge, at the upper edge, or so small that the answer is 1.
 #[derive(Clone, Copy)]
 pub enum Found {
     Fast(f32),
@@ -35,87 +48,52 @@ pub enum Found {
     Low,
     High,
     One,
-    Unsure,
 }
 
-// Slow, where the scaled pattern w is at most 2^11 from a midpoint of two f32s, at which the last 29
-// digits are 2^28, and |t| is at most 2^-14. There the fast path's pattern is at most 64 from w, and its
-// bound on the error is 2280 last places or more, so that the midpoint is between its two bounds.
-fn near_midpoint(t: f64, w: u64) -> Found
+// Slow, where the scaled pattern w is at most 2^11 from a midpoint of two f32s, and |t| is at most 2^-14.
+// There the fast path's pattern is at most 64 from w, and its bound on the error is 2280 last places or
+// more, so that the midpoint is between its two bounds.
+#[tactic(auto, unfolding(crate::specs::Plain::near_midpoint))]
+fn near_midpoint(t: f64, w: u64) -> Option<Found>
     requires { w < 1148 * 2 ^ 52 }
     ensures { result ≡ spec.near_midpoint t w }
 {
-    // 2^-14
-    let small = (t <= f64::from_bits(0x3f10_0000_0000_0000))
-        & (t >= f64::from_bits(0xbf10_0000_0000_0000));
-    if small & ((w + 0x1000_0800) % 0x2000_0000 <= 0x1000) {
-        return Found::Slow;
+    if is_within(t, NEAR_0) & !clear_of_midpoints(w, 0x800) {
+        return Some(Found::Slow);
     }
-    Found::Unsure
+    None
 }
 
-// The answer of the scaled pattern w, where no midpoint of two f32s is near. Of its digits an f32 drops
-// 29, and at a midpoint these are 2^28; 2^20 + 2^15 is the margin on either side, and 896 * 2^23 what the
-// exponents' fields differ by.
-fn rounded_pattern(t: f64, w: u64) -> Found
+// The answer of the scaled pattern w, where no midpoint of two f32s is within 2^20 + 2^15 of it.
+#[tactic(auto, unfolding(crate::specs::Plain::rounded_pattern))]
+fn rounded_pattern(t: f64, w: u64) -> Option<Found>
     requires w_least { 898 * 2 ^ 52 ≤ w }
     requires w_below { w < 1148 * 2 ^ 52 }
     ensures { result ≡ spec.rounded_pattern t w }
 {
-    if (w + 0x1010_8000) % 0x2000_0000 > 0x21_0000 {
-        let n = (w + 0x1000_0000) / 0x2000_0000 - 0x1_c000_0000;
-        return Found::Fast(f32::from_bits(n as u32));
+    match narrowed_pattern(w, 0x10_8000) {
+        Some(v) => Some(Found::Fast(v)),
+        None => near_midpoint(t, w),
     }
-    near_midpoint(t, w)
-}
-
-// Whether no switch of the index is near.
-fn clear_of_index(rest: f64) -> bool
-    ensures { result ≡ spec.clear_of_index rest }
-{
-    // 1/64 - 2^-30
-    (rest <= f64::from_bits(0x3f8f_ffff_e000_0000))
-        & (rest >= f64::from_bits(0xbf8f_ffff_e000_0000))
-}
-
-// Whether no switch of k or of the index is near.
-fn clear_of_switches(part: f64, rest: f64) -> bool
-    ensures { result ≡ spec.clear_of_switches part rest }
-{
-    // 1/2 - 2^-30
-    let of_k = (part <= f64::from_bits(0x3fdf_ffff_ff00_0000))
-        & (part >= f64::from_bits(0xbfdf_ffff_ff00_0000));
-    of_k & clear_of_index(rest)
 }
 
 // For t from -124 to 124 that is not tiny, in two steps: the nearest whole number, and the nearest 32nd
 // to what is left.
-fn in_two_steps(t: f64) -> Found
-    requires t_least { T (le (fin true 31 (pos 2)) t) }
-    requires t_most { T (le t (fin false 31 (pos 2))) }
-    requires not_tiny { spec.is_tiny t ≡ false }
+fn in_two_steps(t: f64) -> Option<Found>
+    requires { spec.Middle t }
     ensures { result ≡ spec.middle_found t }
 {
-    let k = round_ties_even_small(t);
-    let part = t - k;
-    let i = power_index(part);
-    // This never happens; the test tells the compiler the range, so that the tables need none.
-    if i > 32 {
-        return Found::Unsure;
+    let s = Split::of(t);
+    if s.is_clear(SWITCH_GAP) {
+        return rounded_pattern(t, scaled(s.power(), s.k));
     }
-    let rest = part - compoundf_exp2_t(i);
-    if clear_of_switches(part, rest) {
-        return rounded_pattern(t, scaled(plain_power(i, rest), k as i64));
-    }
-    Found::Unsure
+    None
 }
 
 // The same in one step, where the nearest 32nd is not halfway between two whole numbers and no switch of
 // the index is near.
-fn middle_found(t: f64) -> Found
-    requires t_least { T (le (fin true 31 (pos 2)) t) }
-    requires t_most { T (le t (fin false 31 (pos 2))) }
-    requires not_tiny { spec.is_tiny t ≡ false }
+fn middle_found(t: f64) -> Option<Found>
+    requires { spec.Middle t }
     ensures { result ≡ spec.middle_found t }
 {
     // 1.5 * 2^47, so that the sum is rounded to a whole number of 32nds, and its pattern ends in them
@@ -124,8 +102,8 @@ fn middle_found(t: f64) -> Found
     // with 16 more they are 32 * k and the index
     let n = f64::to_bits(sum) + 16;
     let i = n % 32;
-    if (i > 0) & clear_of_index(rest) {
-        let power = plain_power(i, rest);
+    if (i > 0) & clear_of_index(rest, SWITCH_GAP) {
+        let power = power::<Plain>(i, rest);
         let field = n / 32 % 0x1000 * 0x10_0000_0000_0000;
         return rounded_pattern(t, std::num::wrapping_add_u64(power, field));
     }
@@ -133,47 +111,49 @@ fn middle_found(t: f64) -> Found
 }
 
 // For t below -124.
-fn low_found(t: f64) -> Found
+fn low_found(t: f64) -> Option<Found>
     ensures { result ≡ spec.low_found t }
 {
     if t <= -151.0 {
-        return Found::Low;
+        return Some(Found::Low);
     }
     if (t <= -128.0) & (t >= -149.5) {
-        return Found::Slow;
+        return Some(Found::Slow);
     }
-    Found::Unsure
+    None
 }
 
 // For t above 124.
-fn high_found(t: f64) -> Found
+fn high_found(t: f64) -> Option<Found>
     ensures { result ≡ spec.high_found t }
 {
     if t >= 129.0 {
-        return Found::High;
+        return Some(Found::High);
     }
-    Found::Unsure
+    None
 }
 
 // For |t| below 2^-300.
-fn tiny_found(t: f64) -> Found
+#[tactic(auto, unfolding(crate::specs::Plain::tiny_found))]
+fn tiny_found(t: f64) -> Option<Found>
     ensures { result ≡ spec.tiny_found t }
 {
     if t == 0.0 {
-        return Found::One;
+        return Some(Found::One);
     }
-    Found::Unsure
+    None
 }
 
 // Whether |t| is below 2^-300.
+#[tactic(auto, unfolding(crate::specs::Plain::is_tiny))]
 fn is_tiny(t: f64) -> bool
     ensures { result ≡ spec.is_tiny t }
 {
-    (t > f64::from_bits(0xad30_0000_0000_0000)) & (t < f64::from_bits(0x2d30_0000_0000_0000))
+    (t > -TINY) & (t < TINY)
 }
 
 // For the t of the plain logarithm.
-fn plain_found(t: f64) -> Found
+fn plain_found(t: f64) -> Option<Found>
     requires { T (finite t) }
     ensures { result ≡ spec.plain_found t }
 {
@@ -189,15 +169,10 @@ fn plain_found(t: f64) -> Found
     middle_found(t)
 }
 
-// What is found of x and y, the f64s of two finite f32s.
-pub fn filtered(x: f64, y: f64) -> Found
-    requires x_fits { T (fits binary32 x) }
-    requires x_finite { T (finite x) }
-    requires x_above { T (lt minus_one x) }
-    requires y_fits { T (fits binary32 y) }
-    requires y_finite { T (finite y) }
-    ensures { Right result (compoundf_log2p1_fast x ⊗ y) }
+// What is found of x and y.
+pub fn filtered(pair: Operands) -> Option<Found>
+    ensures { Right result (compoundf_log2p1_fast pair.x ⊗ pair.y) }
 {
-    let l = plain_log2p1(x);
-    plain_found(l * y)
+    let l = log2p1::<Plain>(pair.x);
+    plain_found(l * pair.y)
 }

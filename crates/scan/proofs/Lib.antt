@@ -1,3 +1,3 @@
--- The laws of `scan`: line feeds found byte by byte, and lines cut off one by one.
+-- The laws of `scan`: where line feeds are, and lines cut off one by one.
 pub mod Cutting
-pub mod Scanned
+pub mod Eights

@@ -1,6 +1,8 @@
 -- Document 01: "a complete line is what stands before a line feed, from the start or from the line feed before; it may be empty. The unfinished tail is what
 -- follows the last line feed, or everything if there is none."
-use Rattle.std.specs.Prelude.{ℕ, ◌+◌, cond, List, [], ◌∷◌, ◌++◌, eqb}
+use Rattle.std.specs.Prelude.{◌≡◌, ℕ, cond, Option, MatchOption, List, [], ◌∷◌, ◌++◌, eqb, count_by}
+use Rattle.std.specs.List.{position_or_len}
+use denote.Ref.{Bor}
 
 -- "a line feed (byte 10)"
 abbrev pub line_feed : ℕ
@@ -23,12 +25,15 @@ lines l = lines_from [] l
 unfoldable pub rest : List ℕ → List ℕ
 rest l = rest_from [] l
 
+-- One step along the complete lines of l: the first of them, and what is left after its feed; or none, and all of l is left. The unfinished tail stays the same.
+abbrev pub NextLine : List ℕ → Option (Bor (List ℕ)) → List ℕ → Type 0
+NextLine l r left =
+    MatchOption r ((lines l ≡ []) × (left ≡ l)) (λ line. (lines l ≡ line.now ∷ lines left) × (rest l ≡ rest left))
+
 -- how many line feeds l has
 unfoldable pub feeds : List ℕ → ℕ
-feeds [] = 0
-feeds (b ∷ l) = cond (eqb b line_feed) (feeds l + 1) (feeds l)
+feeds l = count_by (λ b. eqb b line_feed) l
 
 -- how many bytes stand before the first line feed of l, or in all of it; no contract of `batch` or above cites it
 unfoldable pub line_end : List ℕ → ℕ
-line_end [] = 0
-line_end (b ∷ l) = cond (eqb b line_feed) 0 (line_end l + 1)
+line_end l = position_or_len (λ b. eqb b line_feed) l

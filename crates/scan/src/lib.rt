@@ -1,62 +1,54 @@
-// Looking for line feeds: how many there are, and where a line ends. What a complete line is, and what
-// is left after the last line feed, is defined in specs/Complete.antt.
+// Looking for line feeds: how many there are, where a line ends, and the complete lines one by one. What
+// a complete line is, and what is left after the last line feed, is defined in specs/Complete.antt.
 #![tactic(auto)]
 
-ghost use Rattle.std.specs.Prelude.{◌≡◌, ◌+◌, ◌≤◌, ltb, length, take, drop};
-ghost use Rattle.scan.specs.Complete.{feeds, line_end};
+mod lines;
 
-// How many line feeds there are.
+ghost use Rattle.std.specs.Prelude.{◌≡◌, ◌+◌, ◌*◌, ◌≤◌, length, drop, eqb};
+ghost use Rattle.std.specs.List.{list_any};
+ghost use Rattle.scan.specs.Complete.{line_feed, feeds, line_end};
+
+pub use lines::Lines;
+
+// How many line feeds there are. They are added up without a branch on any byte, so that the compiler
+// can look at several at once.
+#[tactic(auto, unfolding(crate::specs::Complete::feeds))]
 pub fn line_feeds(s: &[u8]) -> usize
     ensures { result ≡ feeds s.now }
 {
-    let mut n = 0;
-    for i in 0..s.len() {
-        if s[i] == b'\n' {
-            n += 1;
-        }
-    }
-    n
+    s.iter().map(|b| usize::from(*b == b'\n')).sum()
 }
 
-// Whether one of the eight bytes at a place is a line feed. All eight are looked at and no branch is
-// taken on any of them, so that the compiler can test them at once.
-fn has_feed(s: &[u8], at: usize) -> bool
-    requires { at + 8 ≤ length s.now }
-    ensures { result ≡ ltb 0 (feeds (take 8 (drop at s.now))) }
+// Whether one of eight bytes is a line feed. All eight are looked at and no branch is taken on any of
+// them, so that the compiler can test them at once.
+fn has_feed(eight: &[u8; 8]) -> bool
+    ensures { result ≡ list_any (λ b. eqb b line_feed) eight.now }
 {
-    let mut found = false;
-    for i in 0..8usize {
-        found = found | (s[at + i] == b'\n');
-    }
-    found
+    eight.iter().fold(false, |found, b| found | (*b == b'\n'))
 }
 
-// A place from `from` on that is no later than the first line feed, in steps of eight bytes.
-fn near_feed(s: &[u8], from: usize) -> usize
-    requires { from ≤ length s.now }
-    ensures { (result ≤ length s.now) × (result + line_end (drop result s.now) ≡ from + line_end (drop from s.now)) }
+// A place no later than the first line feed, in steps of eight bytes.
+fn near_feed(s: &[u8]) -> usize
+    ensures { (result ≤ length s.now) × (line_end s.now ≡ result + line_end (drop result s.now)) }
 {
-    let mut i = from;
-    while s.len() - i >= 8 {
-        if has_feed(s, i) {
-            return i;
-        }
-        i += 8;
-    }
-    i
+    let (eights, _) = s.as_chunks::<8>();
+    8 * eights.iter().position(has_feed).unwrap_or(eights.len())
+}
+
+// How many bytes stand before the first line feed, or how many there are where there is none.
+#[tactic(auto, using(crate::proofs::Eights::place_or_len), unfolding(crate::specs::Complete::line_end))]
+fn first_feed(s: &[u8]) -> usize
+    ensures { result ≡ line_end s.now }
+{
+    s.iter().position(|b| *b == b'\n').unwrap_or(s.len())
 }
 
 // The place of the first line feed from `from` on, or the length where there is none.
+#[tactic(auto, using(crate::proofs::Cutting::line_end_within))]
 pub fn line_end(s: &[u8], from: usize) -> usize
     requires { from ≤ length s.now }
     ensures { result ≡ from + line_end (drop from s.now) }
 {
-    let mut i = near_feed(s, from);
-    while i < s.len() {
-        if s[i] == b'\n' {
-            return i;
-        }
-        i += 1;
-    }
-    i
+    let near = from + near_feed(&s[from..]);
+    near + first_feed(&s[near..])
 }

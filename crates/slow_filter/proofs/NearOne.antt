@@ -1,5 +1,6 @@
 -- Next to 1 the slow path's answer is what the short polynomial rounds to, where that is clear of every midpoint of two f32s (`near_one`): the two patterns are 6 from each other at most, and a
 -- pattern that is taken is more than 8 from every midpoint. Where t is so small that the slow path does not work the power out, both are 1. Assumes nothing.
+use Rattle.std.proofs.Common.{Option, Some, None}
 use mathlib.Core.Path.{◌≡◌, refl, sym, ap, ◌∙◌, subst}
 use mathlib.Core.Bool.{Bool, true, false, cond}
 use Prim.Native.Nat.{ℕ, ◌+◌, ◌-◌, ◌*◌, ◌/◌, ◌%◌, ◌^◌, ◌≤◌, ◌<◌, min}
@@ -19,9 +20,8 @@ use Rattle.bounds.proofs.Scales.{S, Bound}
 use Rattle.bounds.proofs.Distances.{Apart, bound_near}
 use Rattle.bounds.proofs.Apart.{apart_turned}
 use Rattle.filter.proofs.Power.{Unscaled}
-use Rattle.slow_filter.specs.declared.SlowFound.{SlowFound}
-use Rattle.slow_filter.specs.declared.SlowFound.TheVariants.{Rounded, Unsure}
-use Rattle.slow_filter.specs.NearOne.{near_one_power, margin, rounded_near_one, near_one_found}
+use Rattle.filter.specs.Midpoints.{narrowed_pattern}
+use Rattle.slow_filter.specs.NearOne.{near_one_power, margin, near_one_found}
 use Rattle.slow_filter.proofs.NearOneTiny.{FromOne, tiny_bound, tiny_is_one, tiny_near}
 use Rattle.slow_filter.proofs.NearOnePower.{near_one_power_lem, tiny_power}
 
@@ -41,31 +41,31 @@ narrowed_is w w' u g h t =
     rounds w w' l m g h t = omega arith
 
 -- ---- the answer that is found is what x narrows to
-abbrev Narrows : Float → SlowFound → Type 0
-Narrows x (Rounded v) = narrowed x ≡ v
-Narrows x Unsure = Unit {0}
+abbrev Narrows : Float → Option Float → Type 0
+Narrows x (Some v) = narrowed x ≡ v
+Narrows x None = Unit {0}
 
-narrows : (w w' : ℕ) → Unscaled w → w ≤ w' + 6 → w' ≤ w + 6 → Narrows (f64 w) (rounded_near_one w')
-unfolding rounded_near_one
+narrows : (w w' : ℕ) → Unscaled w → w ≤ w' + 6 → w' ≤ w + 6 → Narrows (f64 w) (narrowed_pattern margin w')
+unfolding narrowed_pattern
 narrows w w' u g h = go (ltb (2 * margin) ((w' + (0x10000000 + margin)) % 0x20000000)) (ltb→lt (2 * margin) ((w' + (0x10000000 + margin)) % 0x20000000))
   where
-    go : (x : Bool) → (T x → 2 * margin < (w' + (0x10000000 + margin)) % 0x20000000) → Narrows (f64 w) (cond x (Rounded (of_bits binary32 ((w' + 0x10000000) / 0x20000000 - 0x1c0000000))) Unsure)
+    go : (x : Bool) → (T x → 2 * margin < (w' + (0x10000000 + margin)) % 0x20000000) → Narrows (f64 w) (cond x (Some (of_bits binary32 ((w' + 0x10000000) / 0x20000000 - 0x1c0000000))) None)
     go true t = narrowed_is w w' u g h (t tt)
     go false t = tt
 
 -- the same where both are 1
-narrows_one : (x : Float) (w' : ℕ) → narrowed x ≡ of_bits binary32 0x3f800000 → FromOne (2 ^ 28 + 8) w' → Narrows x (rounded_near_one w')
-unfolding rounded_near_one
+narrows_one : (x : Float) (w' : ℕ) → narrowed x ≡ of_bits binary32 0x3f800000 → FromOne (2 ^ 28 + 8) w' → Narrows x (narrowed_pattern margin w')
+unfolding narrowed_pattern
 narrows_one x w' e r = go (ltb (2 * margin) ((w' + (0x10000000 + margin)) % 0x20000000)) (ltb→lt (2 * margin) ((w' + (0x10000000 + margin)) % 0x20000000))
   where
     rounds : (w' : ℕ) → 1023 * 2 ^ 52 ≤ w' + (2 ^ 28 + 8) → w' ≤ 1023 * 2 ^ 52 + (2 ^ 28 + 8) → 2 * margin < (w' + (0x10000000 + margin)) % 0x20000000 → 0x3f800000 ≡ (w' + 0x10000000) / 0x20000000 - 0x1c0000000
     rounds w' g h t = omega arith
 
-    go : (y : Bool) → (T y → 2 * margin < (w' + (0x10000000 + margin)) % 0x20000000) → Narrows x (cond y (Rounded (of_bits binary32 ((w' + 0x10000000) / 0x20000000 - 0x1c0000000))) Unsure)
+    go : (y : Bool) → (T y → 2 * margin < (w' + (0x10000000 + margin)) % 0x20000000) → Narrows x (cond y (Some (of_bits binary32 ((w' + 0x10000000) / 0x20000000 - 0x1c0000000))) None)
     go true t = e ∙ ap (of_bits binary32) (rounds w' r.least r.most (t tt))
     go false t = tt
 
-pub near_one : (t : DoubleDouble) (t' : Float) → Number t.hi → Apart S 2 t.hi t' → Bound S 1 t.lo → Bound S (2 ^ 37) t' → (v : Float) → near_one_found t' ≡ Rounded v → v ≡ exp2_accurate t
+pub near_one : (t : DoubleDouble) (t' : Float) → Number t.hi → Apart S 2 t.hi t' → Bound S 1 t.lo → Bound S (2 ^ 37) t' → (v : Float) → near_one_found t' ≡ Some v → v ≡ exp2_accurate t
 unfolding near_one_found
 near_one t t' n a l b v found = go (le (absolute t.hi) (f64 0x3e6715476af0d4c8)) refl
   where

@@ -1,5 +1,6 @@
 -- Where the plain value is clear of every midpoint of two subnormal f32s, the slow path's narrows to what the plain one rounds to (`subnormal`): its pattern is between the two that are
 -- tested, so that its sum with 2^-97 is between two that are the same. Assumes nothing.
+use Rattle.std.proofs.Common.{Option, Some, None}
 use mathlib.Core.Path.{◌≡◌, refl, sym, ap, ◌∙◌, subst}
 use mathlib.Core.Bool.{Bool, true, false, cond}
 use Prim.Native.Nat.{ℕ, suc, ◌+◌, ◌-◌, ◌*◌, ◌%◌, ◌^◌, ◌≤◌, ◌<◌}
@@ -16,8 +17,6 @@ use Rattle.floats.proofs.Laws.Narrow.{low_finite, low_pattern, narrowed_fits}
 use Rattle.floats.proofs.Laws.Sums.{sum_patterns_mono}
 use Rattle.fast_path.specs.Scaling.{scaled}
 use Rattle.filter.proofs.Power.{Unscaled}
-use Rattle.slow_filter.specs.declared.SlowFound.{SlowFound}
-use Rattle.slow_filter.specs.declared.SlowFound.TheVariants.{Rounded, Unsure}
 use Rattle.slow_filter.specs.Subnormal.{BelowNormal, subnormal_sum, rounded_subnormal, subnormal_found}
 
 -- ---- a pattern from 1/2 to 2, scaled by 2^k for a k from -150 to -127: nothing wraps
@@ -73,19 +72,19 @@ sum_same w w' p q g h e =
     less w w' h = omega arith
 
 -- ---- the answer that is found is what x narrows to
-abbrev Narrows : Float → SlowFound → Type 0
-Narrows x (Rounded v) = narrowed x ≡ v
-Narrows x Unsure = Unit {0}
+abbrev Narrows : Float → Option Float → Type 0
+Narrows x (Some v) = narrowed x ≡ v
+Narrows x None = Unit {0}
 
 narrows : (w w' : ℕ) → Below w → Below w' → w ≤ w' + 2 ^ 25 → w' ≤ w + 2 ^ 25 → Narrows (f64 w) (rounded_subnormal w')
 unfolding rounded_subnormal
 narrows w w' p q g h = go (eqb (subnormal_sum (w' - 2 ^ 25)) (subnormal_sum (w' + 2 ^ 25))) refl
   where
-    go : (x : Bool) → eqb (subnormal_sum (w' - 2 ^ 25)) (subnormal_sum (w' + 2 ^ 25)) ≡ x → Narrows (f64 w) (cond x (Rounded (of_bits binary32 (subnormal_sum (w' - 2 ^ 25) - 0x39e0000000000000))) Unsure)
+    go : (x : Bool) → eqb (subnormal_sum (w' - 2 ^ 25)) (subnormal_sum (w' + 2 ^ 25)) ≡ x → Narrows (f64 w) (cond x (Some (of_bits binary32 (subnormal_sum (w' - 2 ^ 25) - 0x39e0000000000000))) None)
     go true e = narrowed_is w p.most ∙ ap (λ (s : ℕ). of_bits binary32 (s - 0x39e0000000000000)) (sum_same w w' p q g h (eqb-true _ _ e))
     go false e = tt
 
-pub subnormal : (b b' : ℕ) (k : ℤ) (v : Float) → Unscaled b → Unscaled b' → b ≤ b' + 2 ^ 25 → b' ≤ b + 2 ^ 25 → BelowNormal k → subnormal_found b' k ≡ Rounded v → narrowed (f64 (scaled b k)) ≡ v
+pub subnormal : (b b' : ℕ) (k : ℤ) (v : Float) → Unscaled b → Unscaled b' → b ≤ b' + 2 ^ 25 → b' ≤ b + 2 ^ 25 → BelowNormal k → subnormal_found b' k ≡ Some v → narrowed (f64 (scaled b k)) ≡ v
 unfolding subnormal_found
 subnormal b b' k v u u' g h n found =
     subst (Narrows (f64 (scaled b k))) found

@@ -2,12 +2,16 @@
 use mathlib.Core.Path.{◌≡◌, refl, sym, ap, ◌∙◌}
 use Prim.Native.Nat.{ℕ, suc, ◌+◌, ◌-◌, ◌≤◌, ◌<◌}
 use native.Mathlib.Nat.{add-zero}
-use native.Mathlib.Numerals.{add-one}
 use native.Mathlib.Omega.{arith}
 use mathlib.Core.List.{List, [], ◌∷◌, ◌++◌, append_assoc, append-nil}
-use lib.ListN.{length, take, drop, set, length-append, length-drop, take-append-drop}
-use lib.Seq.{length-take-le, set_split, take-set-le, take_at, drop_at, drop-drop, append_snoc}
-use Rattle.text.specs.Bytes.{put}
+use lib.ListN.{length, take, drop, set, length-append, length-drop, length-take, take-append-drop}
+use lib.Seq.{length-take-le, set_split, take_at, drop_at, drop-drop}
+use borrow.Rule.Slice.PartMut.{put_mid}
+use mathlib.Core.Bool.{Bool, true, false, not, cond}
+use Rattle.std.specs.Bool.{then_some}
+use Rattle.text.specs.Bytes.{put, if_some}
+use Rattle.text.specs.Digits.{digits}
+use Rattle.text.proofs.Numerals.{length_digits}
 
 -- what stands before the text, and the text, as far as its end
 length_upto : (out : List ℕ) (at : ℕ) (text : List ℕ) → at ≤ length out → length (take at out ++ text) ≡ at + length text
@@ -48,23 +52,27 @@ put_put out at a b h =
     ∙ ap (λ (l : List ℕ). l ++ drop (at + length a + length b) out) (append_assoc (take at out) a b)
     ∙ ap (λ (k : ℕ). take at out ++ (a ++ b) ++ drop k out) e
 
--- a stored byte is text of one byte
-pub put_set : (out : List ℕ) (at b : ℕ) → at < length out → set out at b ≡ put out at (b ∷ [])
+-- a part of a list that is a text, from a place to the end of the text there
+pub put_part : (out : List ℕ) (at end : ℕ) (part text : List ℕ) → part ≡ text → end ≡ at + length text → put_mid at (end - at) out part ≡ put out at text
 unfolding put
-put_set out at b h = set_split out at b h ∙ sym (append_assoc (take at out) (b ∷ []) (drop (at + 1) out) ∙ rw add-one refl)
+put_part out at end part text e f =
+    let k : end - at ≡ length text = omega arith in
+    rw (e, k, drop-drop (length text) at out) (sym (append_assoc (take at out) text (drop (at + length text) out)))
+
+-- digits in as many places as the part has
+pub digits_put : (out : List ℕ) (at end base k n : ℕ) (part : List ℕ) → at + k ≤ length out → end ≡ at + k
+    → part ≡ digits base (length (take (end - at) (drop at out))) n → put_mid at (end - at) out part ≡ put out at (digits base k n)
+digits_put out at end base k n part h f e =
+    let l : length (take (end - at) (drop at out)) ≡ k = omega (arith, length-take (end - at) (drop at out), length-drop at out) in
+    put_part out at end part (digits base k n) (e ∙ ap (λ (i : ℕ). digits base i n) l) (f ∙ ap (λ (i : ℕ). at + i) (sym (length_digits base k n)))
 
 -- what stands from a stored byte on
-drop_set : (out : List ℕ) (i b : ℕ) → i < length out → drop i (set out i b) ≡ b ∷ drop (suc i) out
+pub drop_set : (out : List ℕ) (i b : ℕ) → i < length out → drop i (set out i b) ≡ b ∷ drop (suc i) out
 drop_set out i b h =
     ap (λ (l : List ℕ). drop i l) (set_split out i b h) ∙ drop_at (take i out) (b ∷ drop (suc i) out) i (length-take-le i out (omega arith))
 
--- text put over a list with a byte stored just after it: how digits are put from the last to the first
-pub put_over_set : (out : List ℕ) (at b : ℕ) (text : List ℕ) → at + length text < length out → put (set out (at + length text) b) at text ≡ put out at (text ++ (b ∷ []))
-unfolding put
-put_over_set out at b text h =
-    let e : suc (at + length text) ≡ at + length (text ++ (b ∷ [])) = omega (arith, length-append text (b ∷ [])) in
-    ap (λ (l : List ℕ). l ++ text ++ drop (at + length text) (set out (at + length text) b)) (take-set-le at out (at + length text) b (omega arith))
-    ∙ ap (λ (l : List ℕ). take at out ++ text ++ l) (drop_set out (at + length text) b h)
-    ∙ sym (append_snoc (take at out ++ text) b (drop (suc (at + length text)) out))
-    ∙ ap (λ (l : List ℕ). l ++ drop (suc (at + length text)) out) (append_assoc (take at out) text (b ∷ []))
-    ∙ ap (λ (k : ℕ). take at out ++ (text ++ (b ∷ [])) ++ drop k out) e
+-- a text that is there by a test
+pub by_test : {A : Type 0} (bytes : A → List ℕ) (t : Bool) (text : A) → if_some bytes (then_some (not t) text) ≡ cond t [] (bytes text)
+unfolding if_some
+by_test bytes true text = refl
+by_test bytes false text = refl

@@ -7,7 +7,7 @@ mod hex;
 mod hex_at;
 mod write;
 
-pub use digits::{places, put_digits};
+pub use digits::places;
 pub use hex::from_hex;
 pub use hex_at::{all_hex, hex_number};
-pub use write::{put_bytes, put_number};
+pub use write::{Decimal, Hex, Text, put_bytes};

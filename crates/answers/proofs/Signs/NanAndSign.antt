@@ -8,7 +8,8 @@ use borrow.Author.Tests.{le-ltb}
 use lib.Dec.{T, ltb→lt}
 use lib.Ieee.{Float, nan, inf, fin, binary32, up, down, fits, is_nan, lt}
 use lib.Ieee.Bits.{is_false}
-use Rattle.compound.specs.Answer.{Outcome, rule, whole}
+use Rattle.compound.specs.declared.Route.TheVariants.{Rule as rule, Whole as whole}
+use Rattle.compound.specs.Answer.{Outcome}
 use Rattle.special.specs.Special.{minus_one, is_rule, special}
 use Rattle.whole.specs.Whole as Whole
 use Rattle.compound.specs.Route.{table_path, compound}

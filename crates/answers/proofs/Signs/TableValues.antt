@@ -17,7 +17,7 @@ use Rattle.floats.proofs.Laws.Order.{clear}
 use Rattle.double_double.specs.declared.DoubleDouble.{DoubleDouble}
 use Rattle.double_double.specs.DoubleDouble.{quick_mult_f64}
 use Rattle.fast_path.specs.declared.Exp2.TheVariants.{Rounded, Failed}
-use Rattle.compound.specs.Answer.{edge}
+use Rattle.compound.specs.declared.Route.TheVariants.{Edge as edge}
 use Rattle.special.specs.Special as Special
 use Rattle.fast_path.specs.Fast.{compoundf_log2p1_fast, rounding_test, exp2_fast}
 use Rattle.slow_path.specs.Slow.{compoundf_log2p1_accurate, is_near_one, scaled_to_f32, exp2_away, exp2_accurate, compoundf_accurate}

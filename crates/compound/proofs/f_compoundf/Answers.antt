@@ -7,7 +7,8 @@ use lib.Ieee.{Float, binary32, nan_bits, of_bits}
 use lib.Ieee.Bits.{nan_bits_is, of_bits-fits}
 use lib.Ieee.Scale.{finite}
 use Rattle.compound.specs.declared.Answer.TheVariants.{Rule, Whole}
-use Rattle.compound.specs.Answer.{Outcome, outcome, rule, whole}
+use Rattle.compound.specs.declared.Route.TheVariants.{Rule as rule, Whole as whole}
+use Rattle.compound.specs.Answer.{Outcome, outcome}
 use Rattle.special.specs.Special.{is_rule, special}
 use Rattle.whole.specs.Whole as Whole
 use Rattle.compound.specs.Route.{Tabled, table_path, compound}

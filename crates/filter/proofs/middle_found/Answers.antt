@@ -1,5 +1,5 @@
 -- `middle_found` meets its contract: in one step it finds what the definition finds in two, and else it leaves it to those. Assumes nothing.
-use Rattle.std.proofs.Common.{◌≡◌, ℕ, ◌*◌, ◌%◌, ◌^◌, ◌<◌, ◌≤◌, Bool, true, false, not, ◌&&◌, T, ltb, sym, ap, ◌∙◌, subst, true≢false, lt_of_lt_of_le, lit<, ltb→lt}
+use Rattle.std.proofs.Common.{◌≡◌, ℕ, ◌*◌, ◌%◌, ◌^◌, ◌<◌, ◌≤◌, Bool, true, false, not, ◌&&◌, T, ltb, sym, ap, ◌∙◌, subst, true≢false, lt_of_lt_of_le, lit<, ltb→lt, None}
 use lib.Ieee.{Float, nan, inf, fin, is_nan, of_bits, to_signed}
 use lib.Ieee.Scale.{finite}
 use denote.Floats.{passes}
@@ -9,8 +9,7 @@ use Rattle.floats.proofs.Laws.Tests.{first}
 use Rattle.fast_path.specs.Scaling.{scaled}
 use Rattle.bounds.proofs.Values.{mag}
 use Rattle.bounds.proofs.Scales.{S, Bound}
-use Rattle.filter.specs.declared.Found.TheVariants.{Unsure}
-use Rattle.filter.specs.Plain.{part_of, rest_of, plain_pattern, rounded_pattern, clear_of_index, clear_of_switches, middle_found}
+use Rattle.filter.specs.Plain.{part_of, rest_of, plain_pattern, rounded_pattern, switch_gap, clear_of_index, clear_of_switches, middle_found}
 use Rattle.filter.proofs.Middle.{bounded, not_small, plain_range}
 use Rattle.filter.proofs.OneStep.{wide, nearest32nd, digits32, sum_range, digits_fit, clear_of_both, same_pattern}
 use Rattle.filter.proofs.middle_found.Goals as goal
@@ -19,10 +18,10 @@ use Rattle.filter.proofs.middle_found.Goals.{After-wrapping_add_u64, Start}
 -- at the start
 module _ (c : Start) where
   start : Bound S (124 * 2 ^ 53) c.args.t
-  start = bounded c.args.t (passes _ c.well_formed.0.1) c.requires.t_least c.requires.t_most
+  start = bounded c.args.t (passes _ c.well_formed.0.1) c.requires.least c.requires.most
 
   nonzero : 0 < mag c.args.t
-  nonzero = lt_of_lt_of_le (lit< tt) (not_small start.number c.requires.not_tiny)
+  nonzero = lt_of_lt_of_le (lit< tt) (not_small start.number c.requires.apart)
 
 -- the sum is a number, and its pattern is not too large
 pub float_to_bits-n : goal.float_to_bits-n
@@ -48,7 +47,7 @@ module _ (c : After-wrapping_add_u64) where
   t : Float
   t = c.args.t
 
-  tests : (0 < digits32 t % 32) × (clear_of_index (t ⊖ nearest32nd t) ≡ true)
+  tests : (0 < digits32 t % 32) × (clear_of_index switch_gap (t ⊖ nearest32nd t) ≡ true)
   unfolding t of_bits
   tests =
       let o = both (ltb 0 (digits32 t % 32)) c.clear_of_index.result c.if-i-clear_of_index.true in
@@ -56,9 +55,9 @@ module _ (c : After-wrapping_add_u64) where
 
   pattern_is : c.wrapping_add_u64.result ≡ scaled (plain_pattern t) (to_signed 63 (nearest_whole t))
   unfolding t of_bits
-  pattern_is = c.wrapping_add_u64.ensures.value ∙ same_pattern t (start c.before.before.before.before) (nonzero c.before.before.before.before) tests.0 tests.1 _ c.plain_power-power.ensures
+  pattern_is = c.wrapping_add_u64.ensures.value ∙ same_pattern t (start c.before.before.before.before) (nonzero c.before.before.before.before) tests.0 tests.1 _ c.power-power.ensures
 
-  clear : clear_of_switches (part_of t) (rest_of t) ≡ true
+  clear : clear_of_switches switch_gap (part_of t) (rest_of t) ≡ true
   unfolding t
   clear = clear_of_both t (start c.before.before.before.before) (nonzero c.before.before.before.before) tests.0 tests.1
 
@@ -72,4 +71,4 @@ rounded_pattern-requires-clause-w_below c = (subst (λ (w : ℕ). (898 * 2 ^ 52 
 
 pub returns-then-i-clear_of_index : goal.returns-then-i-clear_of_index
 unfolding middle_found t
-returns-then-i-clear_of_index c = c.rounded_pattern.ensures ∙ ap (rounded_pattern _) (pattern_is (goal.at.returns-then-i-clear_of_index c).After-wrapping_add_u64) ∙ first _ _ Unsure (clear (goal.at.returns-then-i-clear_of_index c).After-wrapping_add_u64)
+returns-then-i-clear_of_index c = c.rounded_pattern.ensures ∙ ap (rounded_pattern _) (pattern_is (goal.at.returns-then-i-clear_of_index c).After-wrapping_add_u64) ∙ first _ _ None (clear (goal.at.returns-then-i-clear_of_index c).After-wrapping_add_u64)

@@ -32,7 +32,7 @@ between t f p g h =
 
 pub middle_found-requires : goal.middle_found-requires
 unfolding of_bits neg
-middle_found-requires c = let o = between _ (passes _ c.well_formed.0.1) c.requires c.if-t.false c.if-t-2.false in record { t_least = o.0; t_most = o.1; not_tiny = sym c.is_tiny.ensures ∙ c.if-is_tiny.false }
+middle_found-requires c = let o = between _ (passes _ c.well_formed.0.1) c.requires c.if-t.false c.if-t-2.false in record { least = o.0; most = o.1; apart = sym c.is_tiny.ensures ∙ c.if-is_tiny.false }
 
 pub returns : goal.returns
 unfolding plain_found of_bits neg

@@ -1,36 +1,16 @@
--- `places` meets its contract: n has j + 1 places when it is from 10^j on and below 10^(j + 1). Assumes nothing.
-use mathlib.Core.Path.{sym}
-use native.Mathlib.Omega.{arith}
-use lib.Dec.{lit≤}
+-- `places` meets its contract: n has one place below ten, and j + 2 from 10^(j + 1) on and below 10^(j + 2). Assumes nothing.
+use Rattle.std.proofs.Common.{◌≡◌, sym, ℕ, zero, suc, ◌+◌, ◌*◌, ◌^◌, ◌≤◌, ◌<◌, arith, Option, IfNone, IfSome, unwrap_or, ap, ◌∙◌}
+use Rattle.std.specs.declared.option.Option.TheVariants.{Some, None}
+use Rattle.text.specs.Digits.{places}
 use Rattle.text.proofs.Numerals.{one_place, places_of}
+use native.Mathlib.Nat.{pow-suc}
 use Rattle.text.proofs.digits.places.Goals as goal
 
-pub returns-then-n-lt10 : goal.returns-then-n-lt10
-returns-then-n-lt10 c = sym (one_place 9 c.args.n c.if-n-lt10.true)
-
-pub returns-then-n-lt100 : goal.returns-then-n-lt100
-returns-then-n-lt100 c = sym (places_of 9 0 _ (lit≤ tt) c.if-n-lt10.false c.if-n-lt100.true)
-
-pub returns-then-n-lt1000 : goal.returns-then-n-lt1000
-returns-then-n-lt1000 c = sym (places_of 9 1 _ (lit≤ tt) c.if-n-lt100.false c.if-n-lt1000.true)
-
-pub returns-then-n-lt10000 : goal.returns-then-n-lt10000
-returns-then-n-lt10000 c = sym (places_of 9 2 _ (lit≤ tt) c.if-n-lt1000.false c.if-n-lt10000.true)
-
-pub returns-then-n-lt100000 : goal.returns-then-n-lt100000
-returns-then-n-lt100000 c = sym (places_of 9 3 _ (lit≤ tt) c.if-n-lt10000.false c.if-n-lt100000.true)
-
-pub returns-then-n-lt1000000 : goal.returns-then-n-lt1000000
-returns-then-n-lt1000000 c = sym (places_of 9 4 _ (lit≤ tt) c.if-n-lt100000.false c.if-n-lt1000000.true)
-
-pub returns-then-n-lt10000000 : goal.returns-then-n-lt10000000
-returns-then-n-lt10000000 c = sym (places_of 9 5 _ (lit≤ tt) c.if-n-lt1000000.false c.if-n-lt10000000.true)
-
-pub returns-then-n-lt100000000 : goal.returns-then-n-lt100000000
-returns-then-n-lt100000000 c = sym (places_of 9 6 _ (lit≤ tt) c.if-n-lt10000000.false c.if-n-lt100000000.true)
-
-pub returns-then-n-lt1000000000 : goal.returns-then-n-lt1000000000
-returns-then-n-lt1000000000 c = sym (places_of 9 7 _ (lit≤ tt) c.if-n-lt100000000.false c.if-n-lt1000000000.true)
+by_log : (n : ℕ) (log : Option ℕ) → IfNone log (n ≡ 0) → IfSome log (λ k. 10 ^ k ≤ n) → IfSome log (λ k. n < 10 * 10 ^ k) → IfSome log (λ k. k < 10)
+    → unwrap_or log 0 + 1 ≡ places 9 n
+by_log n None z a b c = sym (one_place 9 n (omega arith))
+by_log n (Some zero) z a b c = sym (one_place 9 n (omega arith))
+by_log n (Some (suc j)) z a b c = sym (places_of 9 j n (omega arith) a (rw pow-suc (omega (arith, b))) ∙ omega arith)
 
 pub returns : goal.returns
-returns c = sym (places_of 9 8 _ (lit≤ tt) c.if-n-lt1000000000.false (omega arith))
+returns c = ap (λ k. k + 1) c.unwrap_or.ensures ∙ by_log _ _ c.checked_ilog10.ensures.none c.checked_ilog10.ensures.power_le c.checked_ilog10.ensures.next_power_gt c.checked_ilog10.ensures.bound
