@@ -26,6 +26,7 @@ pub fn abs(x: f64) -> f64
 
 // Whether the f32 of the pattern n is a whole number. As in the source a zero does not count as
 // one, and an infinity and a NaN do.
+#[tactic(auto, using(crate::proofs::Laws::Integer::integer_of_bits))]
 pub fn is_integerf(n: u32) -> bool
     ensures { result ≡ is_integer (from_bits binary32 n) }
 {

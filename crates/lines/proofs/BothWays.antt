@@ -229,9 +229,6 @@ record Accepted (l : List ℕ) (d x y : ℕ) : Type 0 where
   y_is : value 16 (hex_digits y_key (after_x (after_id l))) ≡ y
 
 -- of the definition's choice, the only way to a pair
-never : ◌≡◌ {A = ℕ} 0 1 → ⊥
-never z = omega arith
-
 said : (p q : Pair) → ◌≡◌ {A = Result Pair Refusal} (Ok p) (Ok q) → p ≡ q
 said p q e = cc
 
@@ -240,11 +237,11 @@ unfolding read_line
 accepted l d x y e = by (ltb longest (length l)) (has_id l) (has_x (after_id l)) (has_y (after_x (after_id l))) refl refl refl refl
   where
     by : (t i a b : Bool) → ltb longest (length l) ≡ t → has_id l ≡ i → has_x (after_id l) ≡ a → has_y (after_x (after_id l)) ≡ b → Accepted l d x y
-    by true i a b p q r s = absurd (let f = simp p at e in let z : ◌≡◌ {A = ℕ} 0 1 = cc in never z)
-    by false false a b p q r s = absurd (let f = simp (p, q) at e in let z : ◌≡◌ {A = ℕ} 0 1 = cc in never z)
-    by false true false false p q r s = absurd (let f = simp (p, q, r, s) at e in let z : ◌≡◌ {A = ℕ} 0 1 = cc in never z)
-    by false true false true p q r s = absurd (let f = simp (p, q, r, s) at e in let z : ◌≡◌ {A = ℕ} 0 1 = cc in never z)
-    by false true true false p q r s = absurd (let f = simp (p, q, r, s) at e in let z : ◌≡◌ {A = ℕ} 0 1 = cc in never z)
+    by true i a b p q r s = let f = simp (p) at e in cc
+    by false false a b p q r s = let f = simp (p, q) at e in cc
+    by false true false false p q r s = let f = simp (p, q, r, s) at e in cc
+    by false true false true p q r s = let f = simp (p, q, r, s) at e in cc
+    by false true true false p q r s = let f = simp (p, q, r, s) at e in cc
     by false true true true p q r s =
         let f = said _ _ (simp (p, q, r, s) at e) in
         record {

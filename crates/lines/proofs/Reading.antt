@@ -1,10 +1,11 @@
 -- What the code tests at the front of a text, in the words of the definition. Assumes nothing.
-use borrow.Author.Tests.{lt-ltb, le-ltb, ltb-true, ltb-false, eqb-true, eqb-false, eq-eqb, ne_eqb}
-use mathlib.Core.Path.{◌≡◌, refl, sym, ◌∙◌, ap}
+use borrow.Author.Tests.{lt-ltb, le-ltb, ltb-true, ltb-false, eqb-true, eq-eqb, ne_eqb}
+use mathlib.Core.Path.{◌≡◌, refl, sym, ap}
 use mathlib.Core.Bool.{Bool, true, false, ◌&&◌, and-true, and-false}
 use mathlib.Core.List.{List, [], ◌∷◌}
 use Prim.Native.Nat.{ℕ, ◌+◌, ◌≤◌, ◌<◌}
 use native.Mathlib.Omega.{arith}
+use Rattle.std.proofs.lemmas.Bool.Decides.{nat_tests}
 use lib.Dec.{eqb, ltb, lit<}
 use lib.ListN.{length, get_or, take, drop, drop_of_length-le, get_or-eq_default, length-take, length-drop}
 use lib.Seq.{drop-cons, drop-drop}
@@ -19,11 +20,7 @@ use Rattle.lines.specs.Format.{longest, pair, read_line, id_key, x_key, y_key, i
 
 -- equality of numbers is tested either way round
 eqb_sym : (a b : ℕ) → eqb a b ≡ eqb b a
-eqb_sym a b = go (eqb a b) refl
-  where
-    go : (t : Bool) → eqb a b ≡ t → eqb a b ≡ eqb b a
-    go true e = e ∙ sym (eq-eqb b a (sym (eqb-true a b e)))
-    go false e = e ∙ sym (ne_eqb b a (λ k. eqb-false a b e (sym k)))
+eqb_sym a b = grind (arith, nat_tests)
 
 -- a prefix is stripped where the list begins with it
 pub begins_is : (front l : List ℕ) → begins front l ≡ pointwise eqb (take (length front) l) front

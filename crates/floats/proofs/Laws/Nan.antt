@@ -19,7 +19,7 @@ pub bits_of_nan : (f : Format) (x : Float) → ne x x ≡ true → to_bits f x �
 unfolding to_bits
 bits_of_nan f x e = ap (to_bits f) (nan_of_differs x e)
 
-only_nan : (x : Float) → T (is_nan x) → x ≡ nan
+pub only_nan : (x : Float) → T (is_nan x) → x ≡ nan
 unfolding is_nan
 only_nan nan t = refl
 only_nan (inf s) t = absurd t
