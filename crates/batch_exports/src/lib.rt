@@ -8,11 +8,10 @@ ghost use Rattle.std.specs.Prelude.{◌≡◌, ◌++◌, length};
 ghost use Rattle.text.specs.Bytes.{put};
 ghost use Rattle.state.specs.Holding.{fresh};
 ghost use Rattle.batch.specs.Feed.{fed, verdict, out_after, closed, close_number};
-ghost use Rattle.batch.specs.Series.{said};
 ghost use Rattle.totals.specs.Totals.{totals, end_line};
 ghost use Rattle.batch_exports.specs.Handed.{handed};
 
-use batch::{State, TOTALS, Verdict};
+use batch::{State, TOTALS};
 
 // What a feed hands to Rust and C: the state, the number of a refusal or 0, and how many bytes were
 // written.
@@ -34,30 +33,17 @@ pub extern "C" fn fade_fresh() -> State
 
 // Takes a piece of input, and writes the answer lines of the lines whose line feed lies in it to the
 // front of `out`. The number is 0, or 5 to 7 where nothing was taken and nothing written.
+#[tactic(auto, unfolding(crate::specs::Handed::handed, batch::specs::Feed::fed, batch::specs::Series::said))]
 #[unsafe(no_mangle)]
 pub extern "C" fn fade_feed(state: State, piece: &[u8], out: &mut [u8]) -> Handed
     ensures value { result ≡ handed (fed state piece.now (length out.old)) }
     ensures out_after { out.new ≡ out_after (verdict state piece.now (length out.old)) state piece.now out.old }
 {
     let fed = batch::feed(state, piece, out);
-    let after = fed.state;
-    let verdict = fed.verdict;
     Handed {
-        state: after,
-        number: batch::feed_number(verdict),
-        wrote: length_said(verdict),
-    }
-}
-
-// How many bytes a feed says that it wrote.
-fn length_said(verdict: Verdict) -> usize
-    ensures { result ≡ said verdict }
-{
-    match verdict {
-        Verdict::Accepted(n) => n,
-        Verdict::Broken => 0,
-        Verdict::TooManyLines => 0,
-        Verdict::NoRoom => 0,
+        state: fed.state,
+        number: batch::feed_number(fed.verdict),
+        wrote: fed.verdict.unwrap_or(0),
     }
 }
 

@@ -24,6 +24,7 @@ pub mod evaluation;
 pub mod scaling;
 
 // The index of the inverse of t.
+#[tactic(auto, using(crate::proofs::Index::inverse_number), unfolding(crate::specs::Fast::inverse_index))]
 pub fn inverse_index(t: f64) -> u64
     requires { spec.HasInverse t }
     ensures { result ≡ spec.inverse_index t }
@@ -70,6 +71,7 @@ pub fn compoundf_log2p1_fast(x: f64) -> f64
 }
 
 // The index of the nearest 32nd to r.
+#[tactic(auto, using(crate::proofs::Index::power_number), unfolding(crate::specs::Fast::power_index))]
 pub fn power_index(r: f64) -> u64
     requires { spec.HasPower r }
     ensures { result ≡ spec.power_index r }
@@ -79,6 +81,7 @@ pub fn power_index(r: f64) -> u64
 }
 
 // The pattern of a number near 2^r.
+#[tactic(auto, unfolding(crate::specs::Fast::exp2_reduced))]
 fn exp2_reduced(r: f64) -> u64
     requires { spec.HasPower r }
     ensures { result ≡ spec.exp2_reduced r }
@@ -87,13 +90,17 @@ fn exp2_reduced(r: f64) -> u64
     power::<DdFmla>(i, r - CompoundfExp2T::at(i))
 }
 
+// Below, a value may be too small to be a normal f32.
+const LEAST_NORMAL: f64 = f64::from_bits(0x3810_0000_0000_08e2);
+
 // v, where it is large enough to be a normal f32, and v less err and v plus err narrow to one f32; else
 // `None`, the source's -1.0.
+#[tactic(auto, unfolding(crate::specs::Fast::rounding_test))]
 fn rounding_test(v: f64, err: f64) -> Option<f64>
     ensures { result ≡ spec.rounding_test v err }
 {
     // in case of potential underflow, we defer to the accurate path
-    if v < f64::from_bits(0x3810_0000_0000_08e2) {
+    if v < LEAST_NORMAL {
         return None;
     }
     let lb = narrow(v - err);
@@ -107,6 +114,7 @@ fn rounding_test(v: f64, err: f64) -> Option<f64>
 // `rounding_test` by the patterns w of v and e of err. Where e <= w - 40 * 2^52, err is at most 2^-40
 // of v, and so below 2^13 last places of it, or 2^14 of those below a power of two. If no midpoint of
 // two f32s is that near to v, both bounds narrow to one f32.
+#[tactic(auto, using(crate::proofs::Midpoints::clear_of_midpoints, crate::proofs::Midpoints::below_normal, floats::proofs::Laws::Nan::number_of_below))]
 fn pattern_test(w: u64, e: u64) -> Option<f64>
     ensures { result ≡ spec.rounding_test (f64 w) (f64 e) }
 {

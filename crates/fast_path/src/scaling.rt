@@ -13,6 +13,7 @@ pub fn scaled(v: u64, k: i64) -> u64
 }
 
 // The exponent's field of v, one more where the digits are those of sqrt(2) or above.
+#[tactic(auto, unfolding(crate::specs::Scaling::biased))]
 pub fn biased(v: u64) -> u64
     ensures { result ≡ spec.biased v }
 {
@@ -24,6 +25,7 @@ pub fn biased(v: u64) -> u64
 }
 
 // The source's e, as an f64, for the pattern v.
+#[tactic(auto, using(crate::proofs::Field::biased_below, crate::proofs::Field::field_held), unfolding(crate::specs::Scaling::exponent_of))]
 pub fn exponent(v: u64) -> f64
     requires { v < 2 ^ 63 }
     ensures { result ≡ of_int binary64 (spec.exponent_of v) }
@@ -32,6 +34,7 @@ pub fn exponent(v: u64) -> f64
 }
 
 // The pattern v without its e: the number between 1/sqrt(2) and sqrt(2) that has the same digits.
+#[tactic(auto, using(crate::proofs::Field::biased_below, crate::proofs::Field::biased_away, crate::proofs::Index::reduced_pattern))]
 pub fn reduced(v: u64) -> u64
     requires { v < 2 ^ 63 }
     ensures { result ≡ spec.scaled v (neg_ℤ (spec.exponent_of v)) }

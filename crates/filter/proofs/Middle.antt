@@ -40,10 +40,10 @@ scaled_range b k u w = go b (lifted k) (scaled b k) u.low u.high (lifted_low k w
 -- |t| is 2^-300 at least
 pub not_small : {t : Float} → Number t → is_tiny t ≡ false → 2 ^ 774 ≤ mag t
 unfolding is_tiny
-not_small {t} n h = go (lt (f64 0xad30000000000000) t) refl (lt t (f64 0x2d30000000000000)) refl h
+not_small {t} n h = go (lt (neg (f64 0x2d30000000000000)) t) refl (lt t (f64 0x2d30000000000000)) refl h
   where
-    below : Number (f64 0xad30000000000000) × (plus (f64 0xad30000000000000) ≡ 0) × (less (f64 0xad30000000000000) ≡ 2 ^ 774)
-    below = unfold of_bits fits in (record { held = tt; plain = tt }, refl, refl)
+    below : Number (neg (f64 0x2d30000000000000)) × (plus (neg (f64 0x2d30000000000000)) ≡ 0) × (less (neg (f64 0x2d30000000000000)) ≡ 2 ^ 774)
+    below = unfold of_bits neg fits in (record { held = tt; plain = tt }, refl, refl)
 
     above : Number (f64 0x2d30000000000000) × (less (f64 0x2d30000000000000) ≡ 0) × (plus (f64 0x2d30000000000000) ≡ 2 ^ 774)
     above = unfold of_bits fits in (record { held = tt; plain = tt }, refl, refl)
@@ -54,10 +54,10 @@ not_small {t} n h = go (lt (f64 0xad30000000000000) t) refl (lt t (f64 0x2d30000
     from_above : (p n q k w : ℕ) → k ≡ 0 → q ≡ w → q + n ≤ p + k → w ≤ p + n
     from_above p n q k w e f h = omega arith
 
-    go : (x : Bool) → lt (f64 0xad30000000000000) t ≡ x → (y : Bool) → lt t (f64 0x2d30000000000000) ≡ y → (x && y) ≡ false → 2 ^ 774 ≤ mag t
+    go : (x : Bool) → lt (neg (f64 0x2d30000000000000)) t ≡ x → (y : Bool) → lt t (f64 0x2d30000000000000) ≡ y → (x && y) ≡ false → 2 ^ 774 ≤ mag t
     go true e true f h = absurd (true≢false h)
     go true e false f h = from_above (plus t) (less t) (plus (f64 0x2d30000000000000)) (less (f64 0x2d30000000000000)) (2 ^ 774) above.1 above.2 (units_of_not_lt n above.0 f)
-    go false e y f h = from_below (plus t) (less t) (plus (f64 0xad30000000000000)) (less (f64 0xad30000000000000)) (2 ^ 774) below.1 below.2 (units_of_not_lt below.0 n e)
+    go false e y f h = from_below (plus t) (less t) (plus (neg (f64 0x2d30000000000000))) (less (neg (f64 0x2d30000000000000))) (2 ^ 774) below.1 below.2 (units_of_not_lt below.0 n e)
 
 -- what is not 0 is not -0, and its nearest whole number with +0 in the place of -0 leaves the same
 pub plus_zero_lem : (t : Float) → 0 < mag t → t ⊖ (nearest_whole t ⊕ plus_zero) ≡ t ⊖ nearest_whole t

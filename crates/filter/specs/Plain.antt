@@ -2,7 +2,7 @@
 -- runs in front, and the theorems say how far it is from the fast path.
 use Rattle.std.specs.Prelude.{◌≡◌, ℕ, ◌+◌, ◌^◌, Bool, true, false, cond, not, ◌&&◌, T, pos, negsuc, Option, Some, None, to_bits, Float}
 use Rattle.std.specs.Float.{fin, binary64}
-use Rattle.std.specs.Float.Ieee.{to_signed, lt, le, eq}
+use Rattle.std.specs.Float.Ieee.{to_signed, neg, lt, le, eq}
 use Rattle.floats.specs.Operations.{◌⊕◌, ◌⊖◌, ◌⊗◌, f64}
 use Rattle.floats.specs.Narrowing.{nearest_whole}
 use Rattle.floats.specs.OnBits.{within}
@@ -109,7 +109,7 @@ tiny_found t = cond (eq t zero) (Some One) None
 
 -- whether |t| is below 2^-300
 unfoldable pub is_tiny : Float → Bool
-is_tiny t = lt (f64 0xad30000000000000) t && lt t (f64 0x2d30000000000000)
+is_tiny t = lt (neg (f64 0x2d30000000000000)) t && lt t (f64 0x2d30000000000000)
 
 -- t is from -124 to 124, and not tiny
 pub record Middle (t : Float) : Type 0 where

@@ -23,6 +23,7 @@ use crate::split::{Split, clear_of_index};
 use fast_path::evaluation::{log2p1, power};
 use fast_path::scaling::scaled;
 use floats::common::is_within;
+use special::operands::Operands;
 
 pub mod midpoints;
 pub mod plain;
@@ -30,7 +31,13 @@ pub mod split;
 
 // 2^-30: further than this from a switch of k or of the index, the fast path's own t is on the same side of
 // it.
-const SWITCH_GAP: f64 = 9.31322574615478515625e-10;
+const SWITCH_GAP: f64 = f64::from_bits(0x3e10_0000_0000_0000);
+
+// 2^-14
+const NEAR_0: f64 = f64::from_bits(0x3f10_0000_0000_0000);
+
+// 2^-300
+const TINY: f64 = f64::from_bits(0x2d30_0000_0000_0000);
 
 // What is found of a pair: the fast answer; that the fast path fails its tests, so that the answer is
 // the slow one; that t is at the lower edge, at the upper edge, or so small that the answer is 1.
@@ -46,14 +53,12 @@ pub enum Found {
 // Slow, where the scaled pattern w is at most 2^11 from a midpoint of two f32s, and |t| is at most 2^-14.
 // There the fast path's pattern is at most 64 from w, and its bound on the error is 2280 last places or
 // more, so that the midpoint is between its two bounds.
-#[tactic(auto, using(floats::proofs::Laws::Nan::number_of_below), unfolding(crate::specs::Plain::near_midpoint))]
+#[tactic(auto, unfolding(crate::specs::Plain::near_midpoint))]
 fn near_midpoint(t: f64, w: u64) -> Option<Found>
     requires { w < 1148 * 2 ^ 52 }
     ensures { result ≡ spec.near_midpoint t w }
 {
-    // 2^-14
-    let small = is_within(t, f64::from_bits(0x3f10_0000_0000_0000));
-    if small & !clear_of_midpoints(w, 0x800) {
+    if is_within(t, NEAR_0) & !clear_of_midpoints(w, 0x800) {
         return Some(Found::Slow);
     }
     None
@@ -140,11 +145,11 @@ fn tiny_found(t: f64) -> Option<Found>
 }
 
 // Whether |t| is below 2^-300.
-#[tactic(auto, using(floats::proofs::Laws::Nan::number_of_below), unfolding(crate::specs::Plain::is_tiny))]
+#[tactic(auto, unfolding(crate::specs::Plain::is_tiny))]
 fn is_tiny(t: f64) -> bool
     ensures { result ≡ spec.is_tiny t }
 {
-    (t > f64::from_bits(0xad30_0000_0000_0000)) & (t < f64::from_bits(0x2d30_0000_0000_0000))
+    (t > -TINY) & (t < TINY)
 }
 
 // For the t of the plain logarithm.
@@ -164,15 +169,10 @@ fn plain_found(t: f64) -> Option<Found>
     middle_found(t)
 }
 
-// What is found of x and y, the f64s of two finite f32s.
-pub fn filtered(x: f64, y: f64) -> Option<Found>
-    requires x_fits { T (fits binary32 x) }
-    requires x_finite { T (finite x) }
-    requires x_above { T (lt minus_one x) }
-    requires y_fits { T (fits binary32 y) }
-    requires y_finite { T (finite y) }
-    ensures { Right result (compoundf_log2p1_fast x ⊗ y) }
+// What is found of x and y.
+pub fn filtered(pair: Operands) -> Option<Found>
+    ensures { Right result (compoundf_log2p1_fast pair.x ⊗ pair.y) }
 {
-    let l = log2p1::<Plain>(x);
-    plain_found(l * y)
+    let l = log2p1::<Plain>(pair.x);
+    plain_found(l * pair.y)
 }

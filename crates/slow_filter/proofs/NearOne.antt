@@ -20,7 +20,8 @@ use Rattle.bounds.proofs.Scales.{S, Bound}
 use Rattle.bounds.proofs.Distances.{Apart, bound_near}
 use Rattle.bounds.proofs.Apart.{apart_turned}
 use Rattle.filter.proofs.Power.{Unscaled}
-use Rattle.slow_filter.specs.NearOne.{near_one_power, margin, rounded_near_one, near_one_found}
+use Rattle.filter.specs.Midpoints.{narrowed_pattern}
+use Rattle.slow_filter.specs.NearOne.{near_one_power, margin, near_one_found}
 use Rattle.slow_filter.proofs.NearOneTiny.{FromOne, tiny_bound, tiny_is_one, tiny_near}
 use Rattle.slow_filter.proofs.NearOnePower.{near_one_power_lem, tiny_power}
 
@@ -44,8 +45,8 @@ abbrev Narrows : Float → Option Float → Type 0
 Narrows x (Some v) = narrowed x ≡ v
 Narrows x None = Unit {0}
 
-narrows : (w w' : ℕ) → Unscaled w → w ≤ w' + 6 → w' ≤ w + 6 → Narrows (f64 w) (rounded_near_one w')
-unfolding rounded_near_one
+narrows : (w w' : ℕ) → Unscaled w → w ≤ w' + 6 → w' ≤ w + 6 → Narrows (f64 w) (narrowed_pattern margin w')
+unfolding narrowed_pattern
 narrows w w' u g h = go (ltb (2 * margin) ((w' + (0x10000000 + margin)) % 0x20000000)) (ltb→lt (2 * margin) ((w' + (0x10000000 + margin)) % 0x20000000))
   where
     go : (x : Bool) → (T x → 2 * margin < (w' + (0x10000000 + margin)) % 0x20000000) → Narrows (f64 w) (cond x (Some (of_bits binary32 ((w' + 0x10000000) / 0x20000000 - 0x1c0000000))) None)
@@ -53,8 +54,8 @@ narrows w w' u g h = go (ltb (2 * margin) ((w' + (0x10000000 + margin)) % 0x2000
     go false t = tt
 
 -- the same where both are 1
-narrows_one : (x : Float) (w' : ℕ) → narrowed x ≡ of_bits binary32 0x3f800000 → FromOne (2 ^ 28 + 8) w' → Narrows x (rounded_near_one w')
-unfolding rounded_near_one
+narrows_one : (x : Float) (w' : ℕ) → narrowed x ≡ of_bits binary32 0x3f800000 → FromOne (2 ^ 28 + 8) w' → Narrows x (narrowed_pattern margin w')
+unfolding narrowed_pattern
 narrows_one x w' e r = go (ltb (2 * margin) ((w' + (0x10000000 + margin)) % 0x20000000)) (ltb→lt (2 * margin) ((w' + (0x10000000 + margin)) % 0x20000000))
   where
     rounds : (w' : ℕ) → 1023 * 2 ^ 52 ≤ w' + (2 ^ 28 + 8) → w' ≤ 1023 * 2 ^ 52 + (2 ^ 28 + 8) → 2 * margin < (w' + (0x10000000 + margin)) % 0x20000000 → 0x3f800000 ≡ (w' + 0x10000000) / 0x20000000 - 0x1c0000000

@@ -20,7 +20,7 @@ use Rattle.special.specs.Special.{zero, one}
 use Rattle.fast_path.specs.Scaling.{scaled}
 use Rattle.fast_path.specs.Fast.{power_index}
 use Rattle.fast_path.proofs.PowerSlot.{power_nearest}
-use Rattle.slow_path.specs.Slow.{q2, compoundf_exp2_poly2, clamped_k, test_pattern, rounded_to_odd, scaled_to_f32, exp2_product, is_small, exp2_away, is_near_one, exp2_accurate}
+use Rattle.slow_path.specs.Slow.{q2, compoundf_exp2_poly2, clamped_k, test_pattern, rounded_to_odd, scaled_to_f32, exp2_product, err_of, is_small, exp2_away, is_near_one, exp2_accurate}
 use Rattle.slow_path.proofs.Clamped.{index_unclamped}
 use Rattle.slow_path.proofs.Coefficients.{q2_first}
 use Rattle.bounds.proofs.Values.{plus, less, mag, Number}
@@ -255,15 +255,15 @@ module _ (s : Bool) (t : DoubleDouble) (t' : Float) (sign : HasSign s t.hi) (n :
   unfolding plain_power
   plain_pattern_lem = ap (to_bits binary64) polynomials.plain_is
 
-  small : Bool
-  small = is_small k 16 t.hi
+  err : Float
+  err = err_of (is_small k 16 t.hi)
 
   pattern : ℕ
-  pattern = rounded_to_odd q (test_pattern q small (pos 0))
+  pattern = rounded_to_odd q (test_pattern q err (pos 0))
 
   pattern_is : Odd (to_bits binary64 slow_power) pattern
   unfolding slow_power pattern
-  pattern_is = odd_of q (test_pattern q small (pos 0)) slow_is
+  pattern_is = odd_of q (test_pattern q err (pos 0)) slow_is
 
   same_product : exp2_product v 16 ≡ q
   unfolding exp2_product q product poly rest e
@@ -285,11 +285,11 @@ module _ (s : Bool) (t : DoubleDouble) (t' : Float) (sign : HasSign s t.hi) (n :
       ∙ ap (λ (y : Bool). cond (y && x) (narrowed (one ⊕ t.hi ⊗ f64 0x3fe0000000000000)) (exp2_away t (fin s 0 (pos 0)))) (nil_is_zero s)
 
   answer : exp2_away t k ≡ narrowed (f64 pattern)
-  unfolding exp2_away scaled_to_f32 pattern small v k
+  unfolding exp2_away scaled_to_f32 pattern err v k
   answer =
-      ap (λ (j : ℕ). scaled_to_f32 (exp2_product v j) (is_small k j t.hi) (clamped_k k)) (sym (index_unclamped v.hi (subst (λ (j : ℕ). j < 33) (sym index_is) (lit< tt))) ∙ index_is)
-      ∙ ap (λ (z : ℤ). scaled_to_f32 (exp2_product v 16) (is_small k 16 t.hi) z) (clamped_nil s)
-      ∙ ap (λ (w : DoubleDouble). scaled_to_f32 w (is_small k 16 t.hi) (pos 0)) same_product
+      ap (λ (j : ℕ). scaled_to_f32 (exp2_product v j) (err_of (is_small k j t.hi)) (clamped_k k)) (sym (index_unclamped v.hi (subst (λ (j : ℕ). j < 33) (sym index_is) (lit< tt))) ∙ index_is)
+      ∙ ap (λ (z : ℤ). scaled_to_f32 (exp2_product v 16) (err_of (is_small k 16 t.hi)) z) (clamped_nil s)
+      ∙ ap (λ (w : DoubleDouble). scaled_to_f32 w (err_of (is_small k 16 t.hi)) (pos 0)) same_product
       ∙ ap (λ (m : ℕ). narrowed (f64 m)) not_scaled
 
   near_one_signed : le (absolute t.hi) (f64 0x3e6715476af0d4c8) ≡ false → NearOnePower t t'

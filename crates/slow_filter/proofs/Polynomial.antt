@@ -10,7 +10,8 @@ use Rattle.floats.proofs.Laws.Sums.{add_turned}
 use Rattle.double_double.specs.declared.DoubleDouble.{DoubleDouble}
 use Rattle.double_double.specs.DoubleDouble.{from_exact_add, from_exact_mult, quick_mult, dd_fmla}
 use Rattle.tables.specs.Tables.{entry, expf_poly_q, exp2_poly_q2}
-use Rattle.slow_path.specs.Slow.{q2, next_exp2, highest_exp2, compoundf_exp2_poly2}
+use Rattle.fast_path.specs.Fast.{expf_poly}
+use Rattle.slow_path.specs.Slow.{q2, with_term, next_exp2, highest_exp2, compoundf_exp2_poly2}
 use Rattle.bounds.proofs.Values.{plus, less}
 use Rattle.bounds.proofs.Scales.{S, unit, unit_left, Bound, at, ok, sum_k, product_k, add_bound, mul_bound, fmla_bound, within, tested}
 use Rattle.bounds.proofs.Distances.{Apart, apart_at, apart_through, add_apart}
@@ -69,7 +70,7 @@ record PlainHorner (z : Float) : Type 0 where
   near : Apart S 32 ((plain_upper z ⊗ z ⊕ q 1) ⊗ z ⊕ q 0) (plain_expf_poly z)
 
 plain_horner : {z : Float} → Bound S (2 ^ 47) z → Bound S (2 ^ 51) (plain_upper z) → PlainHorner z
-unfolding plain_upper plain_expf_poly
+unfolding plain_upper expf_poly
 plain_horner {z} b c =
     let one = unit_left unit in
     let c1 = coefficients.1.plain in
@@ -131,7 +132,7 @@ module _ (z : DoubleDouble) (z' : Float) (b : Beside apart_z (2 ^ 47) z.hi z') w
       at (91 * 2 ^ 31) (mul_bound one (at (90 * 2 ^ 37) (fmla_bound one c7 h2 c5 tt) tt) b.slow tt tt) tt
 
   hi_is : q2 0 ⊕ (q2 1 ⊕ (q2 3 ⊕ (q2 5 ⊕ (q2 7 ⊕ above) ⊗ z.hi) ⊗ z.hi) ⊗ z.hi) ⊗ z.hi ≡ (compoundf_exp2_poly2 z).hi
-  unfolding above compoundf_exp2_poly2 next_exp2 highest_exp2 quick_mult from_exact_mult from_exact_add
+  unfolding above compoundf_exp2_poly2 with_term next_exp2 highest_exp2 quick_mult from_exact_mult from_exact_add
   hi_is = refl
 
   degree_4 : Beside 195946040035 (634 * 2 ^ 37) (q2 7 ⊕ above) (q 4)

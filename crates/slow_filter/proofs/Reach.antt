@@ -8,9 +8,8 @@ use native.Mathlib.Nat.{lt_of_lt_of_le}
 use native.Mathlib.Omega.{arith}
 use lib.Dec.{T, lit≤, lit<}
 use lib.IntN.{pos}
-use lib.Ieee.{Float, nan, inf, fin, binary64, fits, le, ne, of_bits, to_signed}
+use lib.Ieee.{Float, nan, inf, fin, binary64, fits, sub, neg, le, ne, of_bits, to_signed}
 use lib.Ieee.Fits.{sub-fits}
-use Rattle.floats.specs.Operations.{f64}
 use Rattle.floats.specs.OnBits.{absolute}
 use Rattle.floats.specs.Narrowing.{nearest_whole}
 use Rattle.special.specs.Special.{one}
@@ -20,19 +19,15 @@ use Rattle.bounds.proofs.Scales.{S, S_pos, one_is, unit, Bound, tested}
 use Rattle.bounds.proofs.Distances.{Apart, sub_apart}
 use Rattle.bounds.proofs.Nearest.{whole_bound}
 use Rattle.bounds.proofs.Compared.{units_of_le, lt_true}
-use Rattle.filter.specs.Plain.{part_of, rest_of, slow_from, slow_to}
+use Rattle.filter.specs.Plain.{part_of, rest_of, part_end, rest_end, clear_of_switches, slow_from, slow_to}
 use Rattle.filter.proofs.Power.{part_half}
 use Rattle.filter.proofs.Middle.{four, of_tests}
-use Rattle.filter.proofs.Limits.{between_bound, lower_edge, upper_edge, InsideEdges}
-use Rattle.slow_filter.specs.Plain.{wide_of_switches, in_reach, next_from, next_to, next_to_one}
+use Rattle.filter.proofs.Limits.{between_bound, end_bound, lower_edge, upper_edge, InsideEdges}
+use Rattle.slow_filter.specs.Plain.{switch_gap, in_reach, next_from, next_to, next_to_one}
 use Rattle.slow_filter.specs.Subnormal.{BelowNormal}
 use Rattle.slow_filter.proofs.BelowNormal.{below_normal}
 
 -- ---- the tests, one by one
-pub true_of : (b : Bool) → T b → b ≡ true
-true_of true t = refl
-true_of false t = elim t [ ]
-
 three : (a b c : Bool) → (a && (b && c)) ≡ true → (a ≡ true) × (b ≡ true) × (c ≡ true)
 three true true true e = (e, e, e)
 three true true false e = absurd (true≢false (sym e))
@@ -183,22 +178,16 @@ module _ (t : Float) (f : T (fits binary64 t)) (high : le t slow_to ≡ true) (l
   unfolding rest_of
   rest_fits = sub-fits binary64 (part_of t) _
 
-  pub wide_bounds : wide_of_switches (part_of t) (rest_of t) ≡ true → Bound S (2 ^ 52 - 2 ^ 26) (part_of t) × Bound S (2 ^ 47 - 2 ^ 26) (rest_of t)
-  unfolding wide_of_switches of_bits
+  pub wide_bounds : clear_of_switches switch_gap (part_of t) (rest_of t) ≡ true → Bound S (2 ^ 52 - 2 ^ 26) (part_of t) × Bound S (2 ^ 47 - 2 ^ 26) (rest_of t)
+  unfolding of_bits sub neg
   wide_bounds e =
-      let o = four (le (part_of t) (f64 0x3fdffffff8000000)) (le (f64 0xbfdffffff8000000) (part_of t)) (le (rest_of t) (f64 0x3f8fffff00000000)) (le (f64 0xbf8fffff00000000) (rest_of t)) e in (
-        between_bound (2 ^ 52 - 2 ^ 26) part_low part_high (of_tests (part_of t) (f64 0xbfdffffff8000000) (f64 0x3fdffffff8000000) part_fits tt tt o.1 o.0) o.1 o.0,
-        between_bound (2 ^ 47 - 2 ^ 26) rest_low rest_high (of_tests (rest_of t) (f64 0xbf8fffff00000000) (f64 0x3f8fffff00000000) rest_fits tt tt o.3 o.2) o.3 o.2,
+      let o = four (le (part_of t) (part_end switch_gap)) (le (neg (part_end switch_gap)) (part_of t)) (le (rest_of t) (rest_end switch_gap)) (le (neg (rest_end switch_gap)) (rest_of t)) e in (
+        end_bound (2 ^ 52 - 2 ^ 26) (part_end switch_gap) most_part (of_tests (part_of t) (neg (part_end switch_gap)) (part_end switch_gap) part_fits tt tt o.1 o.0) o.0 o.1,
+        end_bound (2 ^ 47 - 2 ^ 26) (rest_end switch_gap) most_rest (of_tests (rest_of t) (neg (rest_end switch_gap)) (rest_end switch_gap) rest_fits tt tt o.3 o.2) o.2 o.3,
       )
     where
-      part_low : Bound S (2 ^ 52 - 2 ^ 26) (f64 0xbfdffffff8000000)
-      part_low = unfold of_bits fits in tested (2 ^ 52 - 2 ^ 26) (f64 0xbfdffffff8000000) tt
+      most_part : Bound S (2 ^ 52 - 2 ^ 26) (part_end switch_gap)
+      most_part = unfold of_bits fits sub in tested (2 ^ 52 - 2 ^ 26) (part_end switch_gap) tt
 
-      part_high : Bound S (2 ^ 52 - 2 ^ 26) (f64 0x3fdffffff8000000)
-      part_high = unfold of_bits fits in tested (2 ^ 52 - 2 ^ 26) (f64 0x3fdffffff8000000) tt
-
-      rest_low : Bound S (2 ^ 47 - 2 ^ 26) (f64 0xbf8fffff00000000)
-      rest_low = unfold of_bits fits in tested (2 ^ 47 - 2 ^ 26) (f64 0xbf8fffff00000000) tt
-
-      rest_high : Bound S (2 ^ 47 - 2 ^ 26) (f64 0x3f8fffff00000000)
-      rest_high = unfold of_bits fits in tested (2 ^ 47 - 2 ^ 26) (f64 0x3f8fffff00000000) tt
+      most_rest : Bound S (2 ^ 47 - 2 ^ 26) (rest_end switch_gap)
+      most_rest = unfold of_bits fits sub in tested (2 ^ 47 - 2 ^ 26) (rest_end switch_gap) tt

@@ -13,11 +13,10 @@ ghost use Rattle.slow_path.specs.Slow as spec;
 use double_double::DoubleDouble;
 use fast_path::scaling::{biased, exponent, scaled};
 use fast_path::{inverse_index, times_minus_one};
-use floats::common::abs;
 use floats::narrowing::narrow;
-use floats::patterns::{from_bits_f64, to_bits_f64};
 use floats::rounding::round_ties_even;
 use fmla::fmla;
+use std::num::{f64_from_bits_with_nan, f64_to_bits_with_nan, saturating_f64_to_i64};
 use tables::{
     CompoundfExp2T, CompoundfExp2U, Log2p1CompoundfInv, Log2p1CompoundfLog2Inv, Log2p1Log2Poly,
     Log2p1Scale, PairTable, PolyQ2, Table,
@@ -87,7 +86,7 @@ fn one_plus(x: f64) -> DoubleDouble
 {
     if 1.0 >= x {
         // then 1.0 >= |x| since x > -1
-        if abs(x) >= LEAST_KEPT {
+        if x.abs() >= LEAST_KEPT {
             DoubleDouble::from_exact_add(1.0, x)
         } else {
             DoubleDouble { lo: x, hi: 1.0 }
@@ -134,7 +133,7 @@ fn compoundf_log2p1_accurate(x: f64) -> DoubleDouble
     ensures { result ≡ spec.compoundf_log2p1_accurate x }
 {
     let v = one_plus(x);
-    let bits = to_bits_f64(v.hi);
+    let bits = f64_to_bits_with_nan(v.hi);
     // 2^-e
     let scale = Log2p1Scale::at(biased(bits) + 29 - 1023);
     let reduced = DoubleDouble {
@@ -190,7 +189,7 @@ fn compoundf_exp2_poly2(z: DoubleDouble) -> DoubleDouble
 fn clamped_index(r: f64) -> u64
     ensures { result ≡ spec.clamped_index r }
 {
-    let place = to_bits_f64(3.015625 + r) / 0x4000_0000_0000;
+    let place = f64_to_bits_with_nan(3.015625 + r) / 0x4000_0000_0000;
     place.saturating_sub(0x10010).min(32)
 }
 
@@ -199,7 +198,7 @@ fn clamped_index(r: f64) -> u64
 fn clamped_k(k: f64) -> i64
     ensures { result ≡ spec.clamped_k k }
 {
-    std::num::saturating_f64_to_i64(k.clamp(-1000.0, 1000.0))
+    saturating_f64_to_i64(k.clamp(-1000.0, 1000.0))
 }
 
 // The pattern of the rounding test.
@@ -207,10 +206,10 @@ fn clamped_k(k: f64) -> i64
 fn test_pattern(q: DoubleDouble, err: f64, k: i64) -> u64
     ensures { result ≡ spec.test_pattern q err k }
 {
-    let w = to_bits_f64(q.hi);
+    let w = f64_to_bits_with_nan(q.hi);
     // whether the last 28 bits are -1, 0 or 1
     if w.wrapping_add(1) % 0x1000_0000 <= 2 {
-        scaled(to_bits_f64(q.hi + (q.lo + err)), k)
+        scaled(f64_to_bits_with_nan(q.hi + (q.lo + err)), k)
     } else {
         w
     }
@@ -221,7 +220,7 @@ fn test_pattern(q: DoubleDouble, err: f64, k: i64) -> u64
 fn is_lost(q: DoubleDouble, w: u64, v: u64) -> bool
     ensures { result ≡ spec.is_lost q w v }
 {
-    w % 0x1000_0000 == 0 && from_bits_f64(v) == q.hi && q.lo != 0.0
+    w % 0x1000_0000 == 0 && f64_from_bits_with_nan(v) == q.hi && q.lo != 0.0
 }
 
 // v moved by one, up where lo is above 0, else down.
@@ -241,7 +240,7 @@ fn one_towards(v: u64, lo: f64) -> u64
 fn rounded_to_odd(q: DoubleDouble, w: u64) -> u64
     ensures { result ≡ spec.rounded_to_odd q w }
 {
-    let v = to_bits_f64(q.hi + q.lo);
+    let v = f64_to_bits_with_nan(q.hi + q.lo);
     if is_lost(q, w, v) {
         one_towards(v, q.lo)
     } else {
@@ -256,7 +255,7 @@ fn scaled_to_f32(q: DoubleDouble, err: f64, k: i64) -> f32
 {
     let w = test_pattern(q, err, k);
     let v = rounded_to_odd(q, w);
-    narrow(from_bits_f64(scaled(v, k)))
+    narrow(f64_from_bits_with_nan(scaled(v, k)))
 }
 
 // 2^(v.hi + v.lo), by the power of index i and the polynomial.
@@ -306,11 +305,11 @@ fn exp2_away(t: DoubleDouble, k: f64) -> f32
 const ROUNDS_TO_ONE: f64 = f64::from_bits(0x3e67_1547_6af0_d4c8);
 
 // Whether 2^h rounds to 1, k being the nearest whole value to h.
-#[tactic(auto, unfolding(crate::specs::Slow::is_near_one))]
+#[tactic(auto, using(std::proofs::lemmas::Grind::common_steps, floats::proofs::Laws::Magnitude::sign_off), unfolding(crate::specs::Slow::is_near_one))]
 fn is_near_one(k: f64, h: f64) -> bool
     ensures { result ≡ spec.is_near_one k h }
 {
-    k == 0.0 && abs(h) <= ROUNDS_TO_ONE
+    k == 0.0 && h.abs() <= ROUNDS_TO_ONE
 }
 
 // 2^(t.hi + t.lo), rounded to f32.
@@ -327,7 +326,7 @@ fn exp2_accurate(t: DoubleDouble) -> f32
 }
 
 // (1 + x)^y for the route `slow`, x and y being the f64s of two f32s.
-#[tactic(auto, unfolding(crate::specs::Slow::compoundf_accurate))]
+#[tactic(auto, using(std::proofs::lemmas::Grind::common_steps, floats::proofs::Laws::Narrow::narrowed_same), unfolding(crate::specs::Slow::compoundf_accurate))]
 pub fn compoundf_accurate(x: f64, y: f64) -> f32
     requires x_fits { T (fits binary32 x) }
     requires x_finite { T (finite x) }

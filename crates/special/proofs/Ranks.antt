@@ -4,11 +4,8 @@ use mathlib.Core.Path.{◌≡◌, refl, sym, ap, ap₂, ◌∙◌, subst}
 use mathlib.Core.Bool.{Bool, true, false, cond}
 use Prim.Native.Nat.{ℕ, zero, suc, ◌+◌, ◌-◌, ◌*◌, ◌/◌, ◌%◌, ◌^◌, ◌≤◌, ◌<◌}
 use native.Mathlib.Omega.{arith}
-use lib.Ieee.{Float, nan, binary32, is_nan, lt, le, eq, of_bits}
-use Rattle.std.proofs.Common.{List, map, get_or}
 use Rattle.std.proofs.lemmas.Bool.Decides.{nat_tests}
-use Rattle.std.specs.List.{range_with_len}
-use Rattle.std.proofs.lemmas.List.FromFn.{get_or-map-range_with_len}
+use lib.Ieee.{Float, nan, binary32, is_nan, lt, le, eq, of_bits}
 use Rattle.special.specs.Special.{is_zero, from_minus_one_to_zero, special_table, first_that_fits, special}
 use Rattle.special.specs.Rank.{rank}
 use Rattle.special.proofs.Classes.{class_of_x, class_of_y}
@@ -16,6 +13,11 @@ use Rattle.special.proofs.Rule.{typical_x, typical_y, answer_x, answer_y, Kind, 
 use Rattle.floats.proofs.Laws.Compare.{Order, less, same, more, order}
 
 -- ---- the ranks
+-- there are four
+pub four_ranks : (m limit : ℕ) → rank m limit ≤ 3
+unfolding rank
+four_ranks m limit = grind (arith, nat_tests)
+
 under : (m limit : ℕ) → 0 < m → m < limit → rank m limit ≡ 1
 unfolding rank
 under m limit h k = grind (arith, nat_tests)
@@ -123,22 +125,19 @@ module _ (n : ℕ) (h : n < 2 ^ 32) where
       go (no_number a) (same q) = absurd (omega (arith, a, q))
       go (no_number a) (more q) = found_y 1 3 (omega (arith, q, h)) (over (n % 2 ^ 31) 0x7f80_0000 a) (y_nan n a)
 
--- ---- the answer for x of the class a and y of the class b
+-- ---- arm i of the code, where x is of the class a and y of the class b
 pub row : (m n : ℕ) → m < 2 ^ 32 → n < 2 ^ 32 → (r q : ℕ) → r ≡ rank (m % 2 ^ 31) (0x7f80_0000 - m / 2 ^ 31 * 0x4000_0000) → q ≡ rank (n % 2 ^ 31) 0x7f80_0000
-    → special (typical_x (row_x (m / 2 ^ 31 * 4 + r))) (typical_y (row_y (n / 2 ^ 31 * 4 + q))) ≡ special (of_bits binary32 m) (of_bits binary32 n)
-row m n h k r q e d =
-    ap₂ (λ (a b : ℕ). special (typical_x (row_x (m / 2 ^ 31 * 4 + a))) (typical_y (row_y (n / 2 ^ 31 * 4 + b)))) e d
+    → (i : ℕ) → (m / 2 ^ 31 * 4 + r) * 8 + (n / 2 ^ 31 * 4 + q) ≡ i → special (typical_x (row_x (i / 8))) (typical_y (row_y (i % 8))) ≡ special (of_bits binary32 m) (of_bits binary32 n)
+row m n h k r q e d i f =
+    ap₂ (λ (a b : ℕ). special (typical_x (row_x a)) (typical_y (row_y b))) (first r q small f ∙ ap (λ (z : ℕ). m / 2 ^ 31 * 4 + z) e) (second r q small f ∙ ap (λ (z : ℕ). n / 2 ^ 31 * 4 + z) d)
     ∙ x_row m h (typical_y (row_y (spot_y (n / 2 ^ 31) (n % 2 ^ 31))))
     ∙ answer_y (of_bits binary32 m) (of_bits binary32 n) (row_y (spot_y (n / 2 ^ 31) (n % 2 ^ 31))) (y_row n k)
+  where
+    small : q ≤ 3
+    small = subst (λ (z : ℕ). z ≤ 3) (sym d) (four_ranks (n % 2 ^ 31) 0x7f80_0000)
 
--- all of them
-abbrev answer : ℕ → Float
-answer i = special (typical_x (row_x (i / 8))) (typical_y (row_y (i % 8)))
+    first : (r q : ℕ) → q ≤ 3 → (m / 2 ^ 31 * 4 + r) * 8 + (n / 2 ^ 31 * 4 + q) ≡ i → i / 8 ≡ m / 2 ^ 31 * 4 + r
+    first r q l f = omega (arith, l, f, k)
 
-abbrev pub answers : List Float
-answers = map answer (range_with_len 0 64)
-
-pub looked_up : (a b : ℕ) (d : Float) → a < 8 → b < 8 → get_or answers (a * 8 + b) d ≡ special (typical_x (row_x a)) (typical_y (row_y b))
-looked_up a b d h k =
-    get_or-map-range_with_len answer 0 64 (a * 8 + b) (a * 8 + b) d (omega arith) (omega arith)
-    ∙ ap₂ (λ (a b : ℕ). special (typical_x (row_x a)) (typical_y (row_y b))) (omega arith) (omega arith)
+    second : (r q : ℕ) → q ≤ 3 → (m / 2 ^ 31 * 4 + r) * 8 + (n / 2 ^ 31 * 4 + q) ≡ i → i % 8 ≡ n / 2 ^ 31 * 4 + q
+    second r q l f = omega (arith, l, f, k)

@@ -1,5 +1,5 @@
 -- Laws of `put`, text put at a place of a list: the length stays, text after text is one text, and a stored byte is text of one byte. Assumes nothing.
-use mathlib.Core.Path.{◌≡◌, sym, ap, ◌∙◌}
+use mathlib.Core.Path.{◌≡◌, refl, sym, ap, ◌∙◌}
 use Prim.Native.Nat.{ℕ, suc, ◌+◌, ◌-◌, ◌≤◌, ◌<◌}
 use native.Mathlib.Nat.{add-zero}
 use native.Mathlib.Omega.{arith}
@@ -7,7 +7,9 @@ use mathlib.Core.List.{List, [], ◌∷◌, ◌++◌, append_assoc, append-nil}
 use lib.ListN.{length, take, drop, set, length-append, length-drop, length-take, take-append-drop}
 use lib.Seq.{length-take-le, set_split, take_at, drop_at, drop-drop}
 use borrow.Rule.Slice.PartMut.{put_mid}
-use Rattle.text.specs.Bytes.{put}
+use mathlib.Core.Bool.{Bool, true, false, not, cond}
+use Rattle.std.specs.Bool.{then_some}
+use Rattle.text.specs.Bytes.{put, if_some}
 use Rattle.text.specs.Digits.{digits}
 use Rattle.text.proofs.Numerals.{length_digits}
 
@@ -68,3 +70,9 @@ digits_put out at end base k n part h f e =
 pub drop_set : (out : List ℕ) (i b : ℕ) → i < length out → drop i (set out i b) ≡ b ∷ drop (suc i) out
 drop_set out i b h =
     ap (λ (l : List ℕ). drop i l) (set_split out i b h) ∙ drop_at (take i out) (b ∷ drop (suc i) out) i (length-take-le i out (omega arith))
+
+-- a text that is there by a test
+pub by_test : {A : Type 0} (bytes : A → List ℕ) (t : Bool) (text : A) → if_some bytes (then_some (not t) text) ≡ cond t [] (bytes text)
+unfolding if_some
+by_test bytes true text = refl
+by_test bytes false text = refl

@@ -1,8 +1,7 @@
 // Text put at a place of a list of bytes.
 ghost use Rattle.std.specs.Prelude.{◌≡◌, ◌++◌, ◌+◌, ◌≤◌, ℕ, List, [], length};
-ghost use Rattle.std.specs.declared.option.Option.TheVariants.{Some, None};
 ghost use Rattle.std.specs.List.{flat_map};
-ghost use Rattle.text.specs.Bytes.{put};
+ghost use Rattle.text.specs.Bytes.{put, if_some};
 ghost use Rattle.text.specs.Digits.{decimal, hex};
 
 use crate::digits::{fill_digits, places};
@@ -91,8 +90,9 @@ impl<T: Text + Copy, const N: usize> Text for [T; N] {
 
 // Nothing, where there is none.
 impl<T: Text> Text for Option<T> {
-    ghost bytes = { elim [ None ↦ [] | Some t ↦ T.bytes t ] };
+    ghost bytes = { if_some T.bytes };
 
+    #[tactic(auto, using(crate::proofs::Put::put_nothing), unfolding(crate::specs::Bytes::if_some))]
     fn put(self, out: &mut [u8], at: usize) -> usize {
         match self {
             Some(part) => part.put(out, at),

@@ -8,7 +8,7 @@ use Rattle.floats.proofs.Laws.Tests.{first, second}
 use Rattle.tables.specs.Tables.{pair_entry, compoundf_exp2_u}
 use Rattle.fast_path.specs.Scaling.{scaled, Within}
 use Rattle.fast_path.specs.Fast.{power_index}
-use Rattle.fast_path.proofs.Lifted.{within_read, within_cast}
+use Rattle.fast_path.proofs.Lifted.{within_read}
 use Rattle.filter.specs.Plain.{plain_expf_poly, part_of, rest_of, plain_pattern, rounded_pattern, switch_gap, clear_of_switches, middle_found}
 use Rattle.filter.proofs.Accepted.{within_more}
 use Rattle.filter.proofs.Middle.{bounded, middle_splits, whole_within, plain_range}
@@ -22,9 +22,6 @@ of-s-requires c = let o = middle_splits c.args.t (passes _ c.well_formed.0.1) c.
 module _ (c : After-of-s) where
   k_within : Within 1000 c.of-s.result.k
   k_within = subst (Within 1000) (sym c.of-s.ensures.k) (within_more _ (whole_within c.args.t (bounded c.args.t (passes _ c.well_formed.0.1) c.requires.least c.requires.most)))
-
-pub scaled-requires : goal.scaled-requires
-scaled-requires c = within_cast _ (k_within (goal.at.scaled-requires c).After-of-s)
 
 -- the results of the calls up to the test, and to the pattern
 tested_parts : (t p r : Float) (b : Bool) → p ≡ part_of t → r ≡ rest_of t → b ≡ clear_of_switches switch_gap p r → b ≡ clear_of_switches switch_gap (part_of t) (rest_of t)

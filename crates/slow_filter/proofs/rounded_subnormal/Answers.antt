@@ -7,7 +7,8 @@ use native.Mathlib.Nat.{lt_of_lt_of_le}
 use native.Mathlib.Omega.{arith}
 use borrow.Author.Tests.{eq-eqb, ne_eqb}
 use lib.Dec.{T, lit≤}
-use lib.IntN.{ℤ, pos, negsuc}
+use mir.Syntax.{w64}
+use mir.ValLaws.{to_z-of_z}
 use lib.Ieee.{binary32, binary64, is_nan, nan_bits, to_bits}
 use lib.Ieee.Bits.{nan_bits_is, of_bits-fits}
 use Rattle.floats.specs.Operations.{◌⊕◌, f64}
@@ -16,24 +17,16 @@ use Rattle.floats.proofs.Laws.Magnitude.{below_infinity}
 use Rattle.floats.proofs.Laws.Nan.{number_of_below}
 use Rattle.floats.proofs.Laws.Narrow.{low_finite, low_sum_number, low_sum_over, low_pattern, pattern_fits, pattern_number}
 use Rattle.floats.proofs.Laws.Tests.{first, second}
-use Rattle.fast_path.specs.Scaling.{scaled, Within}
-use Rattle.fast_path.proofs.Lifted.{within_read, within_cast}
-use Rattle.slow_filter.specs.Subnormal.{BelowNormal, subnormal_sum, rounded_subnormal, subnormal_found}
+use Rattle.fast_path.specs.Scaling.{scaled}
+use Rattle.slow_filter.specs.Subnormal.{subnormal_sum, rounded_subnormal, subnormal_found}
 use Rattle.slow_filter.proofs.Subnormal.{Below, scaled_below}
 use Rattle.slow_filter.proofs.rounded_subnormal.Goals as goal
 use Rattle.slow_filter.proofs.rounded_subnormal.Goals.{After-scaled-m}
 
 -- ---- the scaled pattern
-within : (k : ℤ) → BelowNormal k → Within 1000 k
-within (pos n) h = absurd h
-within (negsuc n) h = omega (arith, h.1)
-
-pub scaled-m-requires : goal.scaled-m-requires
-scaled-m-requires c = within_cast c.args.k (within c.args.k c.requires.below_normal)
-
 module _ (c : After-scaled-m) where
   scaled_is : c.scaled-m.result ≡ scaled c.args.w c.args.k
-  scaled_is = c.scaled-m.ensures ∙ ap (scaled c.args.w) (within_read c.args.k (within c.args.k c.requires.below_normal))
+  scaled_is = c.scaled-m.ensures ∙ ap (scaled c.args.w) (to_z-of_z w64 c.args.k c.ranges.k)
 
   range : Below c.scaled-m.result
   range = subst Below (sym scaled_is) (scaled_below c.args.w c.args.k (record { low = c.requires.w_least; high = c.requires.w_below }) c.requires.below_normal)
@@ -50,10 +43,6 @@ module _ (c : After-scaled-m) where
     where
       go : (w : ℕ) → w < 897 * 2 ^ 52 → w + 33554432 < 898 * 2 ^ 52
       go w h = omega arith
-
-pub float_from_bits-offset : goal.float_from_bits-offset
-unfolding nan_bits
-float_from_bits-offset c = tt
 
 pub overflow_sub-low : goal.overflow_sub-low
 overflow_sub-low c =

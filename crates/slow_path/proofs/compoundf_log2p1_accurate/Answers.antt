@@ -34,7 +34,7 @@ field_range x v bits b a e d f =
 
 pub overflow_add-biased : goal.overflow_add-biased
 overflow_add-biased c =
-    let range = field_range c.args.x _ _ _ (c.requires.x_fits, (c.requires.x_finite, c.requires.x_above)) c.one_plus-v.ensures c.to_bits_f64-bits.ensures c.biased.ensures in
+    let range = field_range c.args.x _ _ _ (c.requires.x_fits, (c.requires.x_finite, c.requires.x_above)) c.one_plus-v.ensures c.f64_to_bits_with_nan-bits.ensures c.biased.ensures in
     Fits-le (up _ range.1) (Fits-lit tt)
   where
     up : (b : ℕ) → b ≤ 1151 → b + 29 ≤ 1180
@@ -42,16 +42,16 @@ overflow_add-biased c =
 
 pub overflow_sub-biased : goal.overflow_sub-biased
 overflow_sub-biased c =
-    let range = field_range c.args.x _ _ _ (c.requires.x_fits, (c.requires.x_finite, c.requires.x_above)) c.one_plus-v.ensures c.to_bits_f64-bits.ensures c.biased.ensures in
+    let range = field_range c.args.x _ _ _ (c.requires.x_fits, (c.requires.x_finite, c.requires.x_above)) c.one_plus-v.ensures c.f64_to_bits_with_nan-bits.ensures c.biased.ensures in
     omega (arith, range.0)
 
 pub at-scale-requires : goal.at-scale-requires
 at-scale-requires c =
-    let range = field_range c.args.x _ _ _ (c.requires.x_fits, (c.requires.x_finite, c.requires.x_above)) c.one_plus-v.ensures c.to_bits_f64-bits.ensures c.biased.ensures in
+    let range = field_range c.args.x _ _ _ (c.requires.x_fits, (c.requires.x_finite, c.requires.x_above)) c.one_plus-v.ensures c.f64_to_bits_with_nan-bits.ensures c.biased.ensures in
     omega (arith, range.1)
 
 pub exponent-requires : goal.exponent-requires
-exponent-requires c = lt_trans (bits_range c.args.x _ _ (c.requires.x_fits, (c.requires.x_finite, c.requires.x_above)) c.one_plus-v.ensures c.to_bits_f64-bits.ensures).1 (lit< tt)
+exponent-requires c = lt_trans (bits_range c.args.x _ _ (c.requires.x_fits, (c.requires.x_finite, c.requires.x_above)) c.one_plus-v.ensures c.f64_to_bits_with_nan-bits.ensures).1 (lit< tt)
 
 -- the reduced hi is the definition's
 product_is : (x : Float) (v : DoubleDouble) (bits b : ℕ) (s : Float) → v ≡ one_plus x → bits ≡ to_bits binary64 v.hi → b ≡ biased bits → s ≡ entry log2p1_scale (b + 29 - 1023)
@@ -62,7 +62,7 @@ pub log2_reduced-requires : goal.log2_reduced-requires
 log2_reduced-requires c =
     let index = accurate_index c.args.x c.requires.x_fits c.requires.x_finite c.requires.x_above in
     subst HasInverse
-    (sym (product_is c.args.x _ _ _ _ c.one_plus-v.ensures c.to_bits_f64-bits.ensures c.biased.ensures c.at-scale.ensures))
+    (sym (product_is c.args.x _ _ _ _ c.one_plus-v.ensures c.f64_to_bits_with_nan-bits.ensures c.biased.ensures c.at-scale.ensures))
     index.1
 
 -- the results of the calls together are the definition
@@ -73,5 +73,5 @@ together x v bits b s e r e1 e2 e3 e4 e5 e6 = cc
 
 pub returns : goal.returns
 returns c =
-    together c.args.x _ _ _ _ _ _ c.one_plus-v.ensures c.to_bits_f64-bits.ensures
+    together c.args.x _ _ _ _ _ _ c.one_plus-v.ensures c.f64_to_bits_with_nan-bits.ensures
     c.biased.ensures c.at-scale.ensures c.exponent.ensures c.log2_reduced.ensures

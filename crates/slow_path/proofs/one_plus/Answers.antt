@@ -2,14 +2,15 @@
 use Rattle.std.proofs.Common.{arith}
 use Rattle.std.proofs.lemmas.Grind.{common_steps}
 use lib.Ieee.{of_bits}
+use Rattle.floats.proofs.Laws.Magnitude.{sign_off}
 use Rattle.floats.proofs.Laws.Narrow.{narrowed_same}
 use Rattle.slow_path.specs.Slow.{one_plus}
 use Rattle.slow_path.proofs.one_plus.Goals as goal
 
 pub returns-then-abs : goal.returns-then-abs
 unfolding one_plus of_bits
-returns-then-abs c = grind (arith, common_steps, narrowed_same c.args.x c.requires)
+returns-then-abs c = grind (arith, common_steps, sign_off, narrowed_same c.args.x c.requires)
 
 pub returns-else-abs : goal.returns-else-abs
 unfolding one_plus of_bits
-returns-else-abs c = grind (arith, common_steps, narrowed_same c.args.x c.requires)
+returns-else-abs c = grind (arith, common_steps, sign_off, narrowed_same c.args.x c.requires)
