@@ -19,7 +19,8 @@ use Rattle.special.specs.Special as Special
 use Rattle.special.specs.Special.{is_rule, special}
 use Rattle.whole.specs.Whole as Whole
 use Rattle.fast_path.specs.Fast.{compoundf_log2p1_fast, power_place, power_index, HasPower, exp2_fast}
-use Rattle.compound.specs.Route.{Tabled, decided, from_logarithm, table_path, compound}
+use Rattle.special.specs.Operands.{Tabled}
+use Rattle.compound.specs.Route.{decided, from_logarithm, table_path, compound}
 use Rattle.special.proofs.Rule.{off_rule}
 use Rattle.answers.specs.Reached.{TNumber, slow_k, slow_rest, IndexInside, KInside, Reached}
 use Rattle.answers.proofs.Slow.SlowSign.{exponent_number, slow_index, slow_k_lem}

@@ -21,7 +21,8 @@ use Rattle.compound.specs.declared.Route.TheVariants.{Edge as edge}
 use Rattle.special.specs.Special as Special
 use Rattle.fast_path.specs.Fast.{compoundf_log2p1_fast, rounding_test, exp2_fast}
 use Rattle.slow_path.specs.Slow.{compoundf_log2p1_accurate, is_near_one, scaled_to_f32, exp2_away, exp2_accurate, compoundf_accurate}
-use Rattle.compound.specs.Route.{Tabled, decided, from_logarithm, table_path}
+use Rattle.special.specs.Operands.{Tabled}
+use Rattle.compound.specs.Route.{decided, from_logarithm, table_path}
 use Rattle.answers.proofs.Signs.Plain.{Plain, plain_zero, plain_one, plain_infinity, plain_narrowed, either}
 
 -- what the slow path owes: its value has a clear sign where the tests of the route `edge` fail

@@ -27,7 +27,8 @@ use Rattle.special.specs.Special as Special
 use Rattle.special.specs.Special.{one, minus_one}
 use Rattle.fast_path.specs.Fast.{compoundf_log2p1_fast, HasPower}
 use Rattle.slow_path.specs.Slow.{clamped_k, one_plus, compoundf_log2p1_accurate, is_near_one, exp2_away, exp2_accurate, compoundf_accurate}
-use Rattle.compound.specs.Route.{Tabled}
+use Rattle.special.specs.Operands.{Tabled}
+use Rattle.compound.specs.Route.{}
 use Rattle.fast_path.proofs.Index.{between_finite}
 use Rattle.fast_path.proofs.OnePlus.{sum_clear, sum_bits}
 use Rattle.floats.proofs.Laws.Tests.{second}
