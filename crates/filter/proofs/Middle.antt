@@ -22,7 +22,7 @@ use Rattle.bounds.proofs.Values.{per_one, plus, less, mag, Number}
 use Rattle.bounds.proofs.Scales.{S, one_is, Bound, at}
 use Rattle.bounds.proofs.Distances.{apart_at}
 use Rattle.bounds.proofs.Apart.{apart_same}
-use Rattle.bounds.proofs.Compared.{units_in_size, units_of_not_lt}
+use Rattle.bounds.proofs.Compared.{le_of_units, units_in_size, units_of_not_lt}
 use Rattle.filter.specs.Plain.{part_of, rest_of, plain_pattern, switch_gap, part_end, rest_end, clear_of_switches, is_tiny, Middle}
 use Rattle.filter.proofs.Limits.{InsideEdges, inside_edges, middle_bound, part_bound, rest_bound}
 use Rattle.filter.proofs.Power.{Unscaled, power_beside}
@@ -96,6 +96,15 @@ signed (fin s m e) h = record { sign = s; has = refl }
 -- t, as the tests leave it
 pub bounded : (t : Float) → T (fits binary64 t) → T (le (fin true 31 (pos 2)) t) → T (le t (fin false 31 (pos 2))) → Bound S (124 * 2 ^ 53) t
 bounded t f g h = middle_bound (record { held = f; plain = between_finite (fin true 31 (pos 2)) t (fin false 31 (pos 2)) tt tt g h }) (is_true _ g) (is_true _ h)
+
+-- not below -124 and not above 124, and not tiny
+pub middle_of : (t : Float) → T (fits binary64 t) → T (finite t) → lt t (fin true 31 (pos 2)) ≡ false → lt (fin false 31 (pos 2)) t ≡ false → is_tiny t ≡ false → Middle t
+unfolding fits
+middle_of t f p g h a =
+    let n : Number t = record { held = f; plain = p } in
+    let low : Number (fin true 31 (pos 2)) = record { held = tt; plain = tt } in
+    let high : Number (fin false 31 (pos 2)) = record { held = tt; plain = tt } in
+    record { least = le_of_units (fin true 31 (pos 2)) t low n (units_of_not_lt n low g); most = le_of_units t (fin false 31 (pos 2)) n high (units_of_not_lt high n h); apart = a }
 
 -- between the edges k can be cast, and what is left of t has a power
 module _ (t : Float) (f : T (fits binary64 t)) (edges : InsideEdges t) where
