@@ -150,6 +150,9 @@ reduced_index v small =
     (values_of_patterns binary64 0x3fe6800000000000 n (le_trans (lit≤ tt) r.1) (le_trans r.2 (lit≤ tt)))
     (values_of_patterns binary64 n 0x3ff6bc0000000000 (le_trans r.2 (lit≤ tt)) (lit≤ tt))
 
+pub reduced_below : (v : ℕ) → v < 2 ^ 63 → inverse_index (of_bits binary64 (scaled v (neg_ℤ (exponent_of v)))) < 46
+reduced_below v small = (reduced_index v small).1
+
 -- ---- a power of two that is put in: a value of size b at most, as an i64
 within_below : (b n : ℕ) → n ≤ b → Within b (neg_ℤ (pos n))
 within_below b zero h = h
