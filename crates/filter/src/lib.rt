@@ -188,6 +188,7 @@ fn plain_found(t: f64) -> Option<Found>
 }
 
 // What is found of x and y.
+#[tactic(auto, using(crate::proofs::Settled::filtered))]
 pub fn filtered(pair: Operands) -> Option<Found>
     ensures { Right result (compoundf_log2p1_fast pair.x ⊗ pair.y) }
 {
