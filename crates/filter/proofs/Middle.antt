@@ -128,18 +128,6 @@ module _ (t : Float) (f : T (fits binary64 t)) (edges : InsideEdges t) where
 pub edges_of : {t : Float} → Bound S (124 * 2 ^ 53) t → InsideEdges t
 edges_of b = inside_edges (at (125 * 2 ^ 53) b tt)
 
--- what is asked of a t that is split in two steps
-pub record Splits (t : Float) : Type 0 where
-  pub above : T (lt (fin true 75 (pos 1)) t)
-  pub below : T (lt t (fin false 1 (pos 7)))
-  pub other : eq t Special.zero ≡ false
-
-pub middle_splits : (t : Float) → T (fits binary64 t) → Middle t → Splits t
-middle_splits t f m =
-    let b = bounded t f m.least m.most in
-    let edges = edges_of b in
-    record { above = subst T (sym edges.above) tt; below = subst T (sym edges.below) tt; other = not_zero t (lt_of_lt_of_le (lit< tt) (not_small b.number m.apart)) }
-
 module _ (t : Float) (b : Bound S (124 * 2 ^ 53) t) where
   small : SizeAtMost 124 t
   small = units_in_size 124 t b.number (le_trans b.size (le_of_eq (go S per_one one_is)))
@@ -170,3 +158,25 @@ module _ (t : Float) (b : Bound S (124 * 2 ^ 53) t) where
       let o = switch_bounds e in
       let s = signed t b.number.plain in
       scaled_range (plain_pattern t) (to_signed 63 (nearest_whole t)) (power_beside s.sign t t s.has s.has b.number (apart_at (2 ^ 20) (apart_same t) tt) b o.0 o.1).plain whole_within
+
+-- ---- what proves `in_two_steps`
+module _ (t : Float) (f : T (fits binary64 t)) (m : Middle t) where
+  start : Bound S (124 * 2 ^ 53) t
+  start = bounded t f m.least m.most
+
+  pub splits_above : T (lt (fin true 75 (pos 1)) t)
+  splits_above = subst T (sym (edges_of start).above) tt
+
+  pub splits_below : T (lt t (fin false 1 (pos 7)))
+  splits_below = subst T (sym (edges_of start).below) tt
+
+  pub splits_other : eq t Special.zero ≡ false
+  splits_other = not_zero t (lt_of_lt_of_le (lit< tt) (not_small start.number m.apart))
+
+  pub plain_least : clear_of_switches switch_gap (part_of t) (rest_of t) ≡ true → 898 * 2 ^ 52 ≤ scaled (plain_pattern t) (to_signed 63 (nearest_whole t))
+  plain_least e = (plain_range t start e).0
+
+  pub plain_below : clear_of_switches switch_gap (part_of t) (rest_of t) ≡ true → scaled (plain_pattern t) (to_signed 63 (nearest_whole t)) < 1148 * 2 ^ 52
+  plain_below e = (plain_range t start e).1
+
+pub ruleset two_steps = (splits_above, splits_below, splits_other, plain_least, plain_below)
