@@ -12,7 +12,7 @@ use Rattle.compound.specs.declared.Route.TheVariants.{Rule as rule, Whole as who
 use Rattle.compound.specs.Answer.{Outcome, word}
 use Rattle.text.specs.Digits.{places}
 use Rattle.lines.specs.Format.{line_of, longest, read_line, number}
-use Rattle.text.proofs.Numerals.{length_decimal, length_hex}
+use Rattle.text.proofs.Numerals.{length_decimal, length_hex, places_most}
 use Rattle.lines.proofs.BothWays.{both_ways}
 use Rattle.replies.specs.Reply.{answered, bad, ending, answer_to, answer_pattern, reply_to, written}
 use Rattle.lines.specs.declared.Pair.{Pair}
@@ -37,6 +37,9 @@ length_answered d o = simp length-append (omega (arith, length_decimal d, length
 pub length_bad : (n : ℕ) → length (written (bad n)) ≡ 5 + places 9 n
 unfolding written
 length_bad n = simp length-append (omega (arith, length_decimal n))
+
+-- the length of an answer line, and that it is small
+pub ruleset length_steps = (length_answered, length_bad, word_most, places_most)
 
 -- an accepted line: what it says beside its id takes twenty-five bytes
 length_line : (d x y : ℕ) → length (line_of d x y) ≡ 25 + places 9 d

@@ -8,7 +8,7 @@ ghost use Rattle.std.specs.Prelude.{◌≡◌};
 ghost use Rattle.replies.specs.Reply.{reply_to, told};
 
 use compound::{Answer, f_compoundf};
-use lines::{Refusal, read_line};
+use lines::{Pair, Refusal, read_line};
 pub use write::{reply_length, write_reply};
 
 // An id, and the answer for its x and y.
@@ -26,9 +26,7 @@ pub type Reply = Result<Answered, Refusal>;
 pub fn reply_to(line: &[u8]) -> Reply
     ensures { told result ≡ reply_to line.now }
 {
-    let pair = read_line(line)?;
-    Ok(Answered {
-        id: pair.id,
-        answer: f_compoundf(pair.x, pair.y),
-    })
+    let Pair { id, x, y } = read_line(line)?;
+    let answer = f_compoundf(x, y);
+    Ok(Answered { id, answer })
 }

@@ -8,7 +8,7 @@ use std::num::f32_to_bits_with_nan;
 use text::{Decimal, Hex, Text, places};
 
 // The length of a reply's answer line, with its feed.
-#[tactic(auto, using(text::proofs::Numerals::places_most, crate::proofs::Lengths::length_answered, crate::proofs::Lengths::length_bad, crate::proofs::Lengths::word_most), unfolding(crate::specs::Reply::told))]
+#[tactic(auto, using(crate::proofs::Lengths::length_steps), unfolding(crate::specs::Reply::told))]
 pub fn reply_length(reply: Reply) -> usize
     ensures { result ≡ length (written (told reply)) }
 {
@@ -30,12 +30,12 @@ pub fn write_reply(reply: Reply, out: &mut [u8], at: usize) -> usize
             // The pattern of a NaN is 7fc00000.
             let pattern = f32_to_bits_with_nan(answer.value());
             let word = answer.route().word();
-            (
+            let line = (
                 ("id=", Decimal(id)),
                 (" r=", Hex(pattern)),
                 (" via=", word, "\n"),
-            )
-                .put(out, at)
+            );
+            line.put(out, at)
         }
         Err(refusal) => ("bad=", Decimal(refusal.number()), "\n").put(out, at),
     }
