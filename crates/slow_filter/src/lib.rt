@@ -21,6 +21,7 @@ use filter::midpoints::narrowed_pattern;
 use filter::plain::Plain;
 use filter::split::Split;
 use slow_path::compoundf_accurate;
+use special::operands::Operands;
 use tables::{PolyQ2, Table};
 
 // 2^-97: the last place of an f64 from there to 2^-96 is that of an f32 below 2^-126, so a sum with it
@@ -139,15 +140,9 @@ fn plain_slow(x: f64, y: f64) -> Option<f32>
     }
 }
 
-// (1 + x)^y for the route `slow`, as `compoundf_accurate` has it, x and y being the f64s of two finite
-// f32s.
-pub fn slow_answer(x: f64, y: f64) -> f32
-    requires x_fits { T (fits binary32 x) }
-    requires x_finite { T (finite x) }
-    requires x_above { T (lt minus_one x) }
-    requires y_fits { T (fits binary32 y) }
-    requires y_finite { T (finite y) }
-    ensures { result ≡ compoundf_accurate x y }
+// (1 + x)^y for the route `slow`, as `compoundf_accurate` has it.
+pub fn slow_answer(pair: Operands) -> f32
+    ensures { result ≡ compoundf_accurate pair.x pair.y }
 {
-    plain_slow(x, y).unwrap_or_else(|| compoundf_accurate(x, y))
+    plain_slow(pair.x, pair.y).unwrap_or_else(|| compoundf_accurate(pair.base(), pair.y))
 }

@@ -2,11 +2,7 @@
 // (NOTICE); names and the order of the operations are the source's.
 #![tactic(auto)]
 
-ghost use Rattle.std.specs.Prelude.{◌≡◌, ◌<◌, T};
-ghost use Rattle.std.specs.Float.{binary32};
-ghost use Rattle.std.specs.Float.Ieee.{fits, lt};
-ghost use Rattle.std.specs.Float.Ieee.Scale.{finite};
-ghost use Rattle.special.specs.Special.{minus_one};
+ghost use Rattle.std.specs.Prelude.{◌≡◌, ◌<◌};
 ghost use Rattle.fast_path.specs.Fast.{HasInverse};
 ghost use Rattle.slow_path.specs.Slow as spec;
 
@@ -16,6 +12,7 @@ use fast_path::{inverse_index, times_minus_one};
 use floats::narrowing::narrow;
 use floats::rounding::round_ties_even;
 use fmla::fmla;
+use special::operands::Base;
 use std::num::{f64_from_bits_with_nan, f64_to_bits_with_nan, saturating_f64_to_i64};
 use tables::{
     CompoundfExp2T, CompoundfExp2U, Log2p1CompoundfInv, Log2p1CompoundfLog2Inv, Log2p1Log2Poly,
@@ -78,12 +75,12 @@ fn log2_poly2(z: DoubleDouble) -> DoubleDouble
 // 2^-53.
 const LEAST_KEPT: f64 = f64::from_bits(0x3ca0_0000_0000_0000);
 
-// 1 + x, for the f64 of an f32. The source narrows x before it takes |x|, which changes nothing.
+// 1 + x. The source narrows x before it takes |x|, which changes nothing.
 #[tactic(auto, unfolding(crate::specs::Slow::one_plus))]
-fn one_plus(x: f64) -> DoubleDouble
-    requires { T (fits binary32 x) }
-    ensures { result ≡ spec.one_plus x }
+fn one_plus(base: Base) -> DoubleDouble
+    ensures { result ≡ spec.one_plus base.x }
 {
+    let x = base.x;
     if 1.0 >= x {
         // then 1.0 >= |x| since x > -1
         if x.abs() >= LEAST_KEPT {
@@ -124,15 +121,13 @@ fn log2_reduced(e: f64, v: DoubleDouble) -> DoubleDouble
     sum_of_logs(e, Log2p1CompoundfLog2Inv::at(i), log_p)
 }
 
-// Near log2(1 + x) for the f64 of an f32 above -1. The source says that the relative error is below
-// 2^-91.123; `higher` does not bear that out, and nothing here rests on it.
-fn compoundf_log2p1_accurate(x: f64) -> DoubleDouble
-    requires x_fits { T (fits binary32 x) }
-    requires x_finite { T (finite x) }
-    requires x_above { T (lt minus_one x) }
-    ensures { result ≡ spec.compoundf_log2p1_accurate x }
+// Near log2(1 + x). The source says that the relative error is below 2^-91.123; `higher` does not bear
+// that out, and nothing here rests on it.
+#[tactic(auto, unfolding(crate::specs::Slow::compoundf_log2p1_accurate))]
+fn compoundf_log2p1_accurate(base: Base) -> DoubleDouble
+    ensures { result ≡ spec.compoundf_log2p1_accurate base.x }
 {
-    let v = one_plus(x);
+    let v = one_plus(base);
     let bits = f64_to_bits_with_nan(v.hi);
     // 2^-e
     let scale = Log2p1Scale::at(biased(bits) + 29 - 1023);
@@ -325,18 +320,15 @@ fn exp2_accurate(t: DoubleDouble) -> f32
     }
 }
 
-// (1 + x)^y for the route `slow`, x and y being the f64s of two f32s.
+// (1 + x)^y for the route `slow`, y being the f64 of an f32.
 #[tactic(auto, using(std::proofs::lemmas::Grind::common_steps, floats::proofs::Laws::Narrow::narrowed_same), unfolding(crate::specs::Slow::compoundf_accurate))]
-pub fn compoundf_accurate(x: f64, y: f64) -> f32
-    requires x_fits { T (fits binary32 x) }
-    requires x_finite { T (finite x) }
-    requires x_above { T (lt minus_one x) }
-    ensures { result ≡ spec.compoundf_accurate x y }
+pub fn compoundf_accurate(base: Base, y: f64) -> f32
+    ensures { result ≡ spec.compoundf_accurate base.x y }
 {
     if y == 1.0 {
-        1.0 + narrow(x)
+        1.0 + narrow(base.x)
     } else {
-        let l = compoundf_log2p1_accurate(x);
+        let l = compoundf_log2p1_accurate(base);
         exp2_accurate(DoubleDouble::quick_mult_f64(l, y))
     }
 }

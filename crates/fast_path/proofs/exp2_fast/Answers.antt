@@ -1,12 +1,11 @@
 -- `exp2_fast` meets its contract: t is from -150 to 128, so that the index of the power is below 33 and k fits the exponent's field.
 -- Assumes nothing.
-use Rattle.std.proofs.Common.{◌≡◌, ℕ, true, false, T, ℤ, pos, Option, sym, subst}
-use lib.Ieee.{Float, fin, binary64, fits, of_bits, lt, to_signed}
+use Rattle.std.proofs.Common.{◌≡◌, true, false, T, pos, sym, subst}
+use lib.Ieee.{Float, fin, binary64, fits, of_bits, lt}
 use denote.Floats.{passes}
-use Rattle.floats.specs.Operations.{◌⊖◌, f64}
+use Rattle.floats.specs.Operations.{◌⊖◌}
 use Rattle.floats.specs.Narrowing.{nearest_whole}
-use Rattle.fast_path.specs.Scaling.{scaled}
-use Rattle.fast_path.specs.Fast.{HasPower, exp2_reduced, rounding_test, exp2_fast}
+use Rattle.fast_path.specs.Fast.{HasPower, exp2_fast}
 use Rattle.fast_path.proofs.Index.{Castable, whole_k, distance_index}
 use Rattle.fast_path.proofs.exp2_fast.Goals as goal
 use Rattle.fast_path.proofs.exp2_fast.Goals.{After-round_ties_even-k}
@@ -29,14 +28,6 @@ pub float_to_int-ik : goal.float_to_int-ik
 unfolding of_bits
 float_to_int-ik c = (k_castable (goal.at.float_to_int-ik c).After-round_ties_even-k).defined
 
--- the results of the calls together are the definition
-together : (t k : Float) (v : ℕ) (ik : ℤ) (sv se : ℕ) (r : Option Float) → k ≡ nearest_whole t → v ≡ exp2_reduced (t ⊖ k) → ik ≡ to_signed 63 k → sv ≡ scaled v ik
-    → se ≡ scaled 0x3d61d00000000000 ik → r ≡ rounding_test (f64 sv) (f64 se) → r ≡ exp2_fast t
-unfolding exp2_fast
-together t k v ik sv se r e1 e2 e3 e4 e5 e6 = cc
-
 pub returns : goal.returns
-unfolding of_bits
-returns c =
-    together c.args.t _ _ _ _ _ _ c.round_ties_even-k.ensures c.exp2_reduced-v.ensures (k_castable (goal.at.returns c).After-round_ties_even-k).read
-    c.scaled.ensures c.scaled-2.ensures c.pattern_test.ensures
+unfolding of_bits exp2_fast
+returns c = let e = (k_castable (goal.at.returns c).After-round_ties_even-k).read in cc e

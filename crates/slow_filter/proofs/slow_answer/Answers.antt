@@ -4,4 +4,4 @@ use Rattle.slow_filter.proofs.Settled.{settled}
 use Rattle.slow_filter.proofs.slow_answer.Goals as goal
 
 pub returns : goal.returns
-returns c = let a = c.requires in grind (arith, settled c.args.x c.args.y a.x_fits a.x_finite a.x_above a.y_fits a.y_finite)
+returns c = let p = c.args.pair.tabled in grind (arith, settled c.args.pair.x c.args.pair.y p.base.x_fits p.base.x_finite p.base.x_above p.y_fits p.y_finite)

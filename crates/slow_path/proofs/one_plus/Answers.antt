@@ -9,8 +9,8 @@ use Rattle.slow_path.proofs.one_plus.Goals as goal
 
 pub returns-then-abs : goal.returns-then-abs
 unfolding one_plus of_bits
-returns-then-abs c = grind (arith, common_steps, sign_off, narrowed_same c.args.x c.requires)
+returns-then-abs c = grind (arith, common_steps, sign_off, narrowed_same c.args.base.x c.args.base.is_base.x_fits)
 
 pub returns-else-abs : goal.returns-else-abs
 unfolding one_plus of_bits
-returns-else-abs c = grind (arith, common_steps, sign_off, narrowed_same c.args.x c.requires)
+returns-else-abs c = grind (arith, common_steps, sign_off, narrowed_same c.args.base.x c.args.base.is_base.x_fits)
