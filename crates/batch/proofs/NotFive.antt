@@ -21,7 +21,6 @@ fresh_unbroken = rw after_none at (not_broken [])
 
 module _ (s : State) (h : broken s ≡ false) where
   pub close_not_five : closed s ≡ Err BrokenState → ⊥
-  unfolding closed
   close_not_five e = grind (arith, common_steps)
 
   module _ (p : List ℕ) where
@@ -37,7 +36,6 @@ module _ (s : State) (h : broken s ≡ false) where
     feed_not_five room e = grind (arith, common_steps)
 
     pub fed_unbroken : (room : ℕ) → broken (fed s p room).state ≡ false
-    unfolding fed state_after
     fed_unbroken room = by (verdict s p room)
       where
         by : (v : Result ℕ Refused) → broken (state_after v s p) ≡ false

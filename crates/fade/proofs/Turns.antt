@@ -48,14 +48,12 @@ module _ (s : State) (p out : List ℕ) (s' : State) (out' : List ℕ) (m : Come
   call = record { piece = p; out = out; returned = fed s p (length out); out_after = out' }
 
   made_more : Calls Did fresh (m.calls ++ call ∷ [])
-  unfolding fed
   made_more = calls_more call fresh m.calls m.made (rw (← m.state_is) (record { result = refl; output = a.output }))
 
   its_state : s' ≡ state_of fresh (m.calls ++ call ∷ [])
   its_state = a.state_is ∙ sym (state_more call fresh m.calls)
 
   fed_then : Then s' next
-  unfolding fed AfterFeed is_accepted number_of number
   fed_then = by (verdict s p (length out)) next refl a.next_is
     where
       by : (v : Result ℕ Cause) (next : Next) → verdict s p (length out) ≡ v → AfterFeed v next → Then s' next
@@ -76,7 +74,6 @@ module _ (s : State) (p out : List ℕ) (s' : State) (out' : List ℕ) (m : Come
 
 -- a turn after any read
 pub then : (got : Result ℕ Error) (s : State) (l out : List ℕ) (next : Next) (s' : State) (out' : List ℕ) → Come s → AfterRead got s l out next s' out' → Then s' next
-unfolding AfterRead
 then (Err e) s l out (Ok None) s' out' m (u, n) = rw u.state_is m
 then (Err e) s l out (Ok (Some end)) s' out' m (u, n) = absurd cc
 then (Err e) s l out (Err t) s' out' m (u, n) = told s' t (rw u.state_is m)

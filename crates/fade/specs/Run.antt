@@ -13,7 +13,7 @@ use Rattle.fade.specs.declared.End.TheVariants as End
 use Rattle.fade.specs.declared.Told.{Told}
 
 -- the number that is printed after the totals, 0 if there is none
-unfoldable pub number : End → ℕ
+abbrev pub number : End → ℕ
 number End.Finished = 0
 number End.TooManyLines = 6
 number End.Unfinished = 8
@@ -27,7 +27,7 @@ abbrev pub OrNothing : Option End → Next → Type 0
 OrNothing next r = IfOk r (λ x. x ≡ next)
 
 -- what comes after the answers to a piece: "A feed refused with 6 ends the reading". 5 and 7 do not come.
-unfoldable pub AfterFeed : Result ℕ Cause → Next → Type 0
+abbrev pub AfterFeed : Result ℕ Cause → Next → Type 0
 AfterFeed (Ok n) r = OrNothing None r
 AfterFeed (Err TooManyLines) r = r ≡ Ok (Some End.TooManyLines)
 AfterFeed (Err Broken) r = ⊥
@@ -47,7 +47,7 @@ pub record Unfed (s : State) (out : List ℕ) (s' : State) (out' : List ℕ) : T
 
 -- A turn after a read that answered `got`, by what it answered: the read failed, the input is at its end, or that many bytes at the front of l were read. At the end
 -- the totals come, and the number of closing the state.
-unfoldable pub AfterRead : Result ℕ Error → State → List ℕ → List ℕ → Next → State → List ℕ → Type 0
+abbrev pub AfterRead : Result ℕ Error → State → List ℕ → List ℕ → Next → State → List ℕ → Type 0
 AfterRead (Err e) s l out next s' out' = Unfed s out s' out' × OrNothing None next
 AfterRead (Ok zero) s l out next s' out' = Unfed s out s' out' × ((end : End) × ((next ≡ Ok (Some end)) × (number end ≡ close_number (closed s))))
 AfterRead (Ok (suc k)) s l out next s' out' = Answered s (take (suc k) l) out next s' out'
@@ -81,6 +81,6 @@ pub record Run (s : State) (r : Result End Told) : Type 0 where
 
 -- What is printed after the answer lines: "then one line of totals, then `end=8` if a tail is unfinished", and "after the totals it then prints `end=6` alone". Nothing
 -- comes after a failure.
-unfoldable pub last_lines : State → Result End Told → List ℕ
+abbrev pub last_lines : State → Result End Told → List ℕ
 last_lines s (Ok end) = totals s ++ end_line (number end)
 last_lines s (Err told) = []

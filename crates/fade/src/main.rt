@@ -91,7 +91,6 @@ impl Workspace {
     }
 
     // After a read that answered `got`: answers what was read to the front of the piece.
-    #[tactic(auto, unfolding(crate::specs::Run::AfterRead))]
     fn after_read(
         &mut self,
         rt: &(impl Print + Eprint),
@@ -111,7 +110,6 @@ impl Workspace {
     }
 
     // At the end of the input.
-    #[tactic(auto, unfolding(crate::specs::Run::number, batch::specs::Feed::closed, batch::specs::Feed::close_number))]
     fn at_end(&self) -> End
         ensures { number result ≡ close_number (closed self.now.state) }
     {
@@ -124,7 +122,7 @@ impl Workspace {
 
     // Feeds the first `n` bytes of the piece and prints their answers; 6 ends the reading. 5 and 7 do not
     // come, since the state is not broken and the output has room for the answers to any piece.
-    #[tactic(auto, using(batch::proofs::NotFive::fed_unbroken, batch::proofs::NotFive::feed_not_five, batch::proofs::Room::never_seven, batch::proofs::Room::wrote_within), unfolding(crate::specs::Run::AfterFeed, batch::specs::Feed::fed))]
+    #[tactic(auto, using(crate::proofs::Feeds::feeds_go_on))]
     fn answer_piece(&mut self, rt: &(impl Print + Eprint), n: usize) -> Result<Option<End>, Told>
         requires { n ≤ PIECE }
         ensures turn { Answered self.old.state (take n self.old.piece) self.old.out result self.new.state self.new.out }
@@ -187,7 +185,7 @@ fn print(rt: &(impl Print + Eprint), text: &[u8]) -> Result<(), Told> {
 
 // Where the totals come, prints them, and the end's number if there is one. Returns the text, which is
 // empty where none comes.
-#[tactic(auto, using(totals::proofs::Room::totals_most), unfolding(crate::specs::Run::last_lines, crate::specs::Run::number, text::specs::Bytes::put))]
+#[tactic(auto, using(totals::proofs::Room::totals_most), unfolding(text::specs::Bytes::put))]
 fn print_totals<'a>(
     rt: &(impl Print + Eprint),
     state: State,
