@@ -93,6 +93,7 @@ fn in_two_steps(t: f64) -> Option<Found>
 
 // The same in one step, where the nearest 32nd is not halfway between two whole numbers and no switch of
 // the index is near.
+#[tactic(auto, using(crate::proofs::OneStep::at_once), unfolding(crate::specs::Plain::middle_found))]
 fn middle_found(t: f64) -> Option<Found>
     requires { spec.Middle t }
     ensures { result ≡ spec.middle_found t }
