@@ -35,6 +35,7 @@ pub fn inverse_index(t: f64) -> u64
 
 // r * t - 1 for the inverse r of t, as `dd_fmla` has it. r has at most nine digits, so that its
 // products with the two parts of t are exact.
+#[tactic(auto, using(crate::proofs::MinusOne::less_one))]
 pub fn times_minus_one(r: f64, t: f64) -> f64
     requires has_inverse { spec.HasInverse t }
     requires r_is_inverse { r ≡ entry log2p1_compoundf_inv (spec.inverse_index t) }
@@ -132,6 +133,7 @@ fn pattern_test(w: u64, e: u64) -> Option<f64>
 }
 
 // Near 2^t, where the rounding test passes.
+#[tactic(auto, using(crate::proofs::Index::two_to_t), unfolding(crate::specs::Fast::exp2_fast))]
 pub fn exp2_fast(t: f64) -> Option<f64>
     requires t_above { T (lt (fin true 75 (pos 1)) t) }
     requires t_below { T (lt t (fin false 1 (pos 7))) }

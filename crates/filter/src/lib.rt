@@ -79,6 +79,7 @@ fn rounded_pattern(t: f64, w: u64) -> Option<Found>
 
 // For t from -124 to 124 that is not tiny, in two steps: the nearest whole number, and the nearest 32nd
 // to what is left.
+#[tactic(auto, using(crate::proofs::Middle::two_steps), unfolding(crate::specs::Plain::middle_found, crate::specs::Plain::plain_pattern))]
 fn in_two_steps(t: f64) -> Option<Found>
     requires { spec.Middle t }
     ensures { result ≡ spec.middle_found t }
@@ -92,6 +93,7 @@ fn in_two_steps(t: f64) -> Option<Found>
 
 // The same in one step, where the nearest 32nd is not halfway between two whole numbers and no switch of
 // the index is near.
+#[tactic(auto, using(crate::proofs::OneStep::at_once), unfolding(crate::specs::Plain::middle_found))]
 fn middle_found(t: f64) -> Option<Found>
     requires { spec.Middle t }
     ensures { result ≡ spec.middle_found t }
@@ -110,24 +112,36 @@ fn middle_found(t: f64) -> Option<Found>
     in_two_steps(t)
 }
 
+// At most this, t is at the lower edge, and from and to these the value is below the normal f32s.
+const LOW_EDGE: f64 = -151.0;
+
+const SLOW_FROM: f64 = -149.5;
+
+const SLOW_TO: f64 = -128.0;
+
 // For t below -124.
+#[tactic(auto, using(crate::proofs::Limits::numbers), unfolding(crate::specs::Plain::low_found))]
 fn low_found(t: f64) -> Option<Found>
     ensures { result ≡ spec.low_found t }
 {
-    if t <= -151.0 {
+    if t <= LOW_EDGE {
         return Some(Found::Low);
     }
-    if (t <= -128.0) & (t >= -149.5) {
+    if (t <= SLOW_TO) & (t >= SLOW_FROM) {
         return Some(Found::Slow);
     }
     None
 }
 
+// At least this, t is at the upper edge.
+const HIGH_EDGE: f64 = 129.0;
+
 // For t above 124.
+#[tactic(auto, using(crate::proofs::Limits::numbers), unfolding(crate::specs::Plain::high_found))]
 fn high_found(t: f64) -> Option<Found>
     ensures { result ≡ spec.high_found t }
 {
-    if t >= 129.0 {
+    if t >= HIGH_EDGE {
         return Some(Found::High);
     }
     None
@@ -152,15 +166,21 @@ fn is_tiny(t: f64) -> bool
     (t > -TINY) & (t < TINY)
 }
 
+// What is between these has its power near it.
+const MIDDLE_FROM: f64 = -124.0;
+
+const MIDDLE_TO: f64 = 124.0;
+
 // For the t of the plain logarithm.
+#[tactic(auto, using(crate::proofs::Limits::numbers, crate::proofs::Middle::middle_of), unfolding(crate::specs::Plain::plain_found))]
 fn plain_found(t: f64) -> Option<Found>
     requires { T (finite t) }
     ensures { result ≡ spec.plain_found t }
 {
-    if t < -124.0 {
+    if t < MIDDLE_FROM {
         return low_found(t);
     }
-    if t > 124.0 {
+    if t > MIDDLE_TO {
         return high_found(t);
     }
     if is_tiny(t) {
@@ -170,6 +190,7 @@ fn plain_found(t: f64) -> Option<Found>
 }
 
 // What is found of x and y.
+#[tactic(auto, using(crate::proofs::Settled::filtered))]
 pub fn filtered(pair: Operands) -> Option<Found>
     ensures { Right result (compoundf_log2p1_fast pair.x ⊗ pair.y) }
 {
