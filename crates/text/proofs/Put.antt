@@ -10,8 +10,8 @@ use borrow.Rule.Slice.PartMut.{put_mid}
 use mathlib.Core.Bool.{Bool, true, false, not, cond}
 use Rattle.std.specs.Bool.{then_some}
 use Rattle.text.specs.Bytes.{put, if_some}
-use Rattle.text.specs.Digits.{digits}
-use Rattle.text.proofs.Numerals.{length_digits}
+use Rattle.text.specs.Digits.{digits, places, decimal, hex}
+use Rattle.text.proofs.Numerals.{length_digits, length_decimal, length_hex}
 
 -- what stands before the text, and the text, as far as its end
 length_upto : (out : List ℕ) (at : ℕ) (text : List ℕ) → at ≤ length out → length (take at out ++ text) ≡ at + length text
@@ -52,6 +52,11 @@ put_put out at a b h =
     ∙ ap (λ (l : List ℕ). l ++ drop (at + length a + length b) out) (append_assoc (take at out) a b)
     ∙ ap (λ (k : ℕ). take at out ++ (a ++ b) ++ drop k out) e
 
+-- and so is a list after both
+pub pair_put : (out middle last : List ℕ) (at next : ℕ) (a b : List ℕ) → at + length (a ++ b) ≤ length out
+    → middle ≡ put out at a → next ≡ at + length a → last ≡ put middle next b → last ≡ put out at (a ++ b)
+pair_put out middle last at next a b h e f g = g ∙ rw (e, f) (put_put out at a b (omega (arith, length-append a b)))
+
 -- a part of a list that is a text, from a place to the end of the text there
 pub put_part : (out : List ℕ) (at end : ℕ) (part text : List ℕ) → part ≡ text → end ≡ at + length text → put_mid at (end - at) out part ≡ put out at text
 unfolding put
@@ -65,6 +70,17 @@ pub digits_put : (out : List ℕ) (at end base k n : ℕ) (part : List ℕ) → 
 digits_put out at end base k n part h f e =
     let l : length (take (end - at) (drop at out)) ≡ k = omega (arith, length-take (end - at) (drop at out), length-drop at out) in
     put_part out at end part (digits base k n) (e ∙ ap (λ (i : ℕ). digits base i n) l) (f ∙ ap (λ (i : ℕ). at + i) (sym (length_digits base k n)))
+
+pub decimal_put : (out : List ℕ) (at end n k : ℕ) (part : List ℕ) → at + length (decimal n) ≤ length out → end ≡ at + k → k ≡ places 9 n
+    → part ≡ digits 10 (length (take (end - at) (drop at out))) n → put_mid at (end - at) out part ≡ put out at (decimal n)
+unfolding decimal
+decimal_put out at end n k part h f e g =
+    digits_put out at end 10 (places 9 n) n part (omega (arith, length_decimal n)) (omega arith) g
+
+pub hex_put : (out : List ℕ) (at end n : ℕ) (part : List ℕ) → at + length (hex n) ≤ length out → end ≡ at + 8
+    → part ≡ digits 16 (length (take (end - at) (drop at out))) n → put_mid at (end - at) out part ≡ put out at (hex n)
+unfolding hex
+hex_put out at end n part h f g = digits_put out at end 16 8 n part (omega (arith, length_hex n)) f g
 
 -- what stands from a stored byte on
 pub drop_set : (out : List ℕ) (i b : ℕ) → i < length out → drop i (set out i b) ≡ b ∷ drop (suc i) out
