@@ -23,7 +23,6 @@ use Rattle.batch.proofs.Carrying.{after_all, after_none, verdict_due, after_more
 
 -- none of 5 to 7 is the number of an accepted call, and one of them that of a refused one
 pub none_accepted : (v : Result ℕ Refused) → eqb (number v) 0 ≡ is_ok v
-unfolding number
 none_accepted (Ok n) = refl
 none_accepted (Err Broken) = refl
 none_accepted (Err TooManyLines) = refl
@@ -35,7 +34,6 @@ taken c = cond (is_accepted c) c.piece []
 
 -- that is what its answer says
 taken_takes : (c : Call) → taken c ≡ takes c.returned.verdict c.piece
-unfolding is_accepted takes
 taken_takes c = rw none_accepted (by c.returned.verdict)
   where
     by : (v : Result ℕ Refused) → cond (is_ok v) c.piece [] ≡ takes v c.piece
@@ -57,7 +55,7 @@ module _ (t p : List ℕ) (room : ℕ) where
   due_fits n e = grind (arith, common_steps)
 
   due_number : number (due t p room) ≡ cond (ltb most_lines (feeds t + feeds p)) 6 (cond (ltb room (length (answer_lines (adds t p)))) 7 0)
-  unfolding due number
+  unfolding due
   due_number = grind (arith, common_steps)
 
   due_not_five : due t p room ≡ Err Broken → ⊥
@@ -66,11 +64,11 @@ module _ (t p : List ℕ) (room : ℕ) where
 
   -- it is none of 5 to 7 exactly where neither test fails
   pub due_few_fits : is_refused (due t p room) ≡ false → (feeds t + feeds p ≤ most_lines) × (length (answer_lines (adds t p)) ≤ room)
-  unfolding due is_refused number
+  unfolding due
   due_few_fits e = (grind (arith, common_steps), grind (arith, common_steps))
 
   pub few_fits_due : feeds t + feeds p ≤ most_lines → length (answer_lines (adds t p)) ≤ room → is_refused (due t p room) ≡ false
-  unfolding due is_refused number
+  unfolding due
   few_fits_due a b = grind (arith, common_steps)
 
 -- one call, after the bytes t were taken
@@ -83,16 +81,13 @@ record Step (t : List ℕ) (c : Call) : Type 0 where
 
 module _ (t : List ℕ) (c : Call) (d : Did (after_all t) c.piece c.out c.returned c.out_after) where
   is_due : c.returned.verdict ≡ due t c.piece (length c.out)
-  unfolding fed
   is_due = rw (d.result, verdict_due)
 
   its_state : c.returned.state ≡ state_after c.returned.verdict (after_all t) c.piece
-  unfolding fed
   its_state = rw d.result
 
   -- a refused call took nothing, wrote nothing and left all as it was
   refused : (e : Refused) → c.returned.verdict ≡ Err e → Step t c
-  unfolding is_accepted wrote said state_after out_after
   refused e is =
       let state : c.returned.state ≡ after_all t = rw is at its_state in
       let out : c.out_after ≡ c.out = rw is at d.output in
@@ -106,7 +101,6 @@ module _ (t : List ℕ) (c : Call) (d : Did (after_all t) c.piece c.out c.return
 
   -- an accepted one took its piece and wrote the answer lines of the lines that it adds
   took : (n : ℕ) → c.returned.verdict ≡ Ok n → Step t c
-  unfolding is_accepted number wrote said state_after out_after
   took n is =
       let state : c.returned.state ≡ after (after_all t) c.piece = rw is at its_state in
       let out : c.out_after ≡ answer_lines (adds t c.piece) ++ drop n c.out = rw (is, answers_added) at d.output in

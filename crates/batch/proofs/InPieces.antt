@@ -99,12 +99,10 @@ module _ (input out₀ out : List ℕ) (s : State) (rest : List ℕ) (at : ℕ) 
   answers_taken = rw (← after_none, answers_added, wrote_taken)
 
   pub as_whole : Did fresh (accepted cs) out₀ (record { state = s; verdict = Ok at }) out
-  unfolding fed state_after out_after
   as_whole = record { result = rw (verdict_taken, state_taken); output = rw answers_taken m.out_is }
 
   -- when all is taken, nothing was refused
   pub all_pieces : length rest ≡ 0 → InPieces input out₀ (record { state = s; verdict = Ok at }) out
-  unfolding is_refused number
   all_pieces none =
       let all : accepted cs ≡ input = grind (arith, common_steps, m) in
       record {
@@ -134,7 +132,6 @@ module _ (input out₀ out : List ℕ) (s : State) (rest : List ℕ) (at : ℕ) 
 
     -- if it is refused, state and output are as they were, and the whole would be refused too
     refused : (e : Refused) → r.verdict ≡ Err e → InPieces input out₀ r out'
-    unfolding is_accepted is_refused
     refused e is =
         let left = obeyed.refused_leaves (rw (none_accepted, is)) in
         let same : out' ≡ out = rw left.1 (grind (arith, common_steps)) in
@@ -158,7 +155,6 @@ module _ (input out₀ out : List ℕ) (s : State) (rest : List ℕ) (at : ℕ) 
 
     -- if it is accepted, the input is taken further
     pub come_on : (n : ℕ) → r.verdict ≡ Ok n → Come input out₀ out' r.state rest' (at + n) (cs ++ call ∷ [])
-    unfolding is_accepted said number
     come_on n ok =
         let due_n = sym obeyed.verdict_due ∙ ok in
         let fits : n ≤ length (drop at out) = due_fits (accepted cs) p (length (drop at out)) n due_n in

@@ -1,11 +1,11 @@
 -- A state that is not broken stays so: neither feed nor close answers 5 to it, and feed leaves one that is not broken. Assumes nothing.
-use Rattle.std.proofs.Common.{ℕ, ◌+◌, ◌≡◌, false, List, refl, arith}
+use Rattle.std.proofs.Common.{ℕ, ◌+◌, ◌≡◌, false, List, [], refl, arith}
 use Rattle.std.proofs.lemmas.Grind.{common_steps}
 use Rattle.std.specs.Prelude.{Result, Ok, Err}
 use Rattle.scan.specs.Complete.{lines_from, rest_from, feeds}
 use Rattle.scan.proofs.Cutting.{feeds_rest, length_lines}
 use Rattle.state.specs.declared.State.{State}
-use Rattle.state.specs.Holding.{carried, broken}
+use Rattle.state.specs.Holding.{carried, broken, fresh}
 use Rattle.state.proofs.Unbroken.{adds_up, carried_feeds, unbroken}
 use Rattle.piece.specs.Piece.{added, after}
 use Rattle.piece.proofs.Replied.{total_plus, total_counts}
@@ -13,10 +13,14 @@ use Rattle.batch.specs.declared.Refused.{Refused}
 use Rattle.batch.specs.declared.Refused.TheVariants.{Broken}
 use Rattle.batch.specs.declared.NotClosed.TheVariants.{BrokenState}
 use Rattle.batch.specs.Feed.{verdict, state_after, fed, closed}
+use Rattle.batch.proofs.Carrying.{after_none, not_broken}
+
+-- a fresh state is one
+pub fresh_unbroken : broken fresh ≡ false
+fresh_unbroken = rw after_none at (not_broken [])
 
 module _ (s : State) (h : broken s ≡ false) where
   pub close_not_five : closed s ≡ Err BrokenState → ⊥
-  unfolding closed
   close_not_five e = grind (arith, common_steps)
 
   module _ (p : List ℕ) where
@@ -32,7 +36,6 @@ module _ (s : State) (h : broken s ≡ false) where
     feed_not_five room e = grind (arith, common_steps)
 
     pub fed_unbroken : (room : ℕ) → broken (fed s p room).state ≡ false
-    unfolding fed state_after
     fed_unbroken room = by (verdict s p room)
       where
         by : (v : Result ℕ Refused) → broken (state_after v s p) ≡ false

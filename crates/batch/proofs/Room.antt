@@ -1,7 +1,7 @@
 -- What is kept for answers is enough for those to any piece. Assumes nothing.
 use Rattle.std.proofs.Common.{ℕ, ◌+◌, ◌*◌, ◌≤◌, ◌≡◌, false, List, length, arith}
 use Rattle.std.proofs.lemmas.Grind.{common_steps}
-use Rattle.std.specs.Prelude.{Err}
+use Rattle.std.specs.Prelude.{Ok, Err}
 use Rattle.state.specs.declared.State.{State}
 use Rattle.state.specs.declared.Tail.{Tail}
 use Rattle.batch.specs.declared.Refused.TheVariants.{NoRoom}
@@ -26,3 +26,8 @@ answers_most s p h = omega (arith, answers_length p (carried s.tail), carried_mo
 pub never_seven : (s : State) (p : List ℕ) (room : ℕ) → over_long + length p + more * length p ≤ room → verdict s p room ≡ Err NoRoom → ⊥
 unfolding verdict
 never_seven s p room h e = grind (arith, common_steps, answers_most)
+
+-- an accepted feed wrote no more than the output has
+pub wrote_within : (s : State) (p : List ℕ) (room n : ℕ) → verdict s p room ≡ Ok n → n ≤ room
+unfolding verdict
+wrote_within s p room n e = grind (arith, common_steps)

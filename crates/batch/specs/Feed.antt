@@ -18,24 +18,24 @@ verdict s p room =
     (cond (ltb room (length (answer_lines (added s p)))) (Err NoRoom) (Ok (length (answer_lines (added s p))))))
 
 -- the numbers of the refusals; 0 stands for an accepted feed
-unfoldable pub number : Result ℕ Refused → ℕ
+abbrev pub number : Result ℕ Refused → ℕ
 number (Ok n) = 0
 number (Err Broken) = 5
 number (Err TooManyLines) = 6
 number (Err NoRoom) = 7
 
 -- the state that comes back: a refused feed leaves it as it was
-unfoldable pub state_after : Result ℕ Refused → State → List ℕ → State
+abbrev pub state_after : Result ℕ Refused → State → List ℕ → State
 state_after (Ok n) s p = after s p
 state_after (Err e) s p = s
 
 -- the output as it stands afterwards: the answer lines at its front, and the bytes after them as they were; a refused feed leaves all of it
-unfoldable pub out_after : Result ℕ Refused → State → List ℕ → List ℕ → List ℕ
+abbrev pub out_after : Result ℕ Refused → State → List ℕ → List ℕ → List ℕ
 out_after (Ok n) s p out = answer_lines (added s p) ++ drop n out
 out_after (Err e) s p out = out
 
 -- what feed answers
-unfoldable pub fed : State → List ℕ → ℕ → Fed
+abbrev pub fed : State → List ℕ → ℕ → Fed
 fed s p room = record { state = state_after (verdict s p room) s p; verdict = verdict s p room }
 
 -- what a call of feed did: an equation for its result, and one for every byte of the output
@@ -44,11 +44,11 @@ pub record Did (s : State) (p out : List ℕ) (r : Fed) (out' : List ℕ) : Type
   pub output : out' ≡ out_after r.verdict s p out
 
 -- what close answers: "close in the order 5, 8"
-unfoldable pub closed : State → Result Unit NotClosed
+abbrev pub closed : State → Result Unit NotClosed
 closed s = cond (broken s) (Err BrokenState) (cond (eqb s.tail.count 0) (Ok tt) (Err Unfinished))
 
 -- the numbers of the refusals; 0 stands for an accepted close
-unfoldable pub close_number : Result Unit NotClosed → ℕ
+abbrev pub close_number : Result Unit NotClosed → ℕ
 close_number (Ok u) = 0
 close_number (Err BrokenState) = 5
 close_number (Err Unfinished) = 8

@@ -36,11 +36,11 @@ state_of s [] = s
 state_of s (c ∷ cs) = state_of c.returned.state cs
 
 -- "A piece is accepted when its call returns none of 5 to 7."
-unfoldable pub is_accepted : Call → Bool
+abbrev pub is_accepted : Call → Bool
 is_accepted c = eqb (Feed.number c.returned.verdict) 0
 
 -- an answer with one of 5 to 7
-unfoldable pub is_refused : Result ℕ Refused → Bool
+abbrev pub is_refused : Result ℕ Refused → Bool
 is_refused v = not (eqb (Feed.number v) 0)
 
 -- "the joined accepted pieces"
@@ -49,12 +49,12 @@ accepted [] = []
 accepted (c ∷ cs) = cond (is_accepted c) c.piece [] ++ accepted cs
 
 -- how many bytes a call says that it wrote
-unfoldable pub said : Result ℕ Refused → ℕ
+abbrev pub said : Result ℕ Refused → ℕ
 said (Ok n) = n
 said (Err e) = 0
 
 -- "the bytes it wrote are that many from the front of its output, as they stand when it returns. A refused one wrote none."
-unfoldable pub wrote : Call → List ℕ
+abbrev pub wrote : Call → List ℕ
 wrote c = take (said c.returned.verdict) c.out_after
 
 -- "the bytes written, joined"
@@ -75,7 +75,7 @@ due t p room =
     (cond (ltb room (length (answer_lines (adds t p)))) (Err NoRoom) (Ok (length (answer_lines (adds t p)))))
 
 -- what is taken of a piece, by what its call returns
-unfoldable pub takes : Result ℕ Refused → List ℕ → List ℕ
+abbrev pub takes : Result ℕ Refused → List ℕ → List ℕ
 takes (Ok n) p = p
 takes (Err e) p = []
 

@@ -56,7 +56,7 @@ pub fn feed(state: State, piece: &[u8], out: &mut [u8]) -> Fed
 }
 
 // The work: takes the piece, unless there is a cause to refuse it.
-#[tactic(auto, using(state::proofs::Unbroken::tail_sound, state::proofs::Unbroken::adds_up), unfolding(crate::specs::Feed::verdict, crate::specs::Feed::fed, crate::specs::Feed::state_after, crate::specs::Feed::out_after, piece::specs::Piece::added, text::specs::Bytes::put))]
+#[tactic(auto, using(state::proofs::Unbroken::tail_sound, state::proofs::Unbroken::adds_up), unfolding(crate::specs::Feed::verdict, piece::specs::Piece::added, text::specs::Bytes::put))]
 fn try_take(state: State, piece: &[u8], out: &mut [u8]) -> Result<Taken, Refused>
     ensures { MatchResult result
         (λ taken. Did state piece.now out.old (record { state = taken.state; verdict = Ok taken.wrote }) out.new)
@@ -75,7 +75,6 @@ fn try_take(state: State, piece: &[u8], out: &mut [u8]) -> Result<Taken, Refused
 }
 
 // The number of a feed's answer: 5 to 7 for a refusal, 0 for an accepted feed.
-#[tactic(auto, unfolding(crate::specs::Feed::number))]
 pub fn feed_number(verdict: Result<usize, Refused>) -> u32
     ensures { result ≡ number verdict }
 {
@@ -86,7 +85,6 @@ pub fn feed_number(verdict: Result<usize, Refused>) -> u32
 }
 
 // Whether the input may end here. The state stays as it is.
-#[tactic(auto, unfolding(crate::specs::Feed::closed))]
 pub fn close(state: State) -> Result<(), NotClosed>
     ensures { result ≡ closed state }
 {
@@ -101,7 +99,6 @@ pub fn close(state: State) -> Result<(), NotClosed>
 }
 
 // The number of a close's answer: 5 or 8 for a refusal, 0 for an accepted close.
-#[tactic(auto, unfolding(crate::specs::Feed::close_number))]
 pub fn close_number(closed: Result<(), NotClosed>) -> u32
     ensures { result ≡ close_number closed }
 {

@@ -33,7 +33,6 @@ pub extern "C" fn fade_fresh() -> State
 
 // Takes a piece of input, and writes the answer lines of the lines whose line feed lies in it to the
 // front of `out`. The number is 0, or 5 to 7 where nothing was taken and nothing written.
-#[tactic(auto, unfolding(crate::specs::Handed::handed, batch::specs::Feed::fed, batch::specs::Series::said))]
 #[unsafe(no_mangle)]
 pub extern "C" fn fade_feed(state: State, piece: &[u8], out: &mut [u8]) -> Handed
     ensures value { result ≡ handed (fed state piece.now (length out.old)) }

@@ -44,6 +44,7 @@ pub fn factor<M: MulAdd>(z: f64) -> f64
 }
 
 // Near log2(1 + x) for the f64 of an f32 above -1.
+#[tactic(auto, using(crate::proofs::OnePlus::one_plus), unfolding(crate::specs::Fast::log2p1))]
 pub fn log2p1<M: MulAdd>(x: f64) -> f64
     requires { T (lt minus_one x) }
     ensures { result ≡ spec.log2p1 M.mul_add x }

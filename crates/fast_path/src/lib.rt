@@ -35,6 +35,7 @@ pub fn inverse_index(t: f64) -> u64
 
 // r * t - 1 for the inverse r of t, as `dd_fmla` has it. r has at most nine digits, so that its
 // products with the two parts of t are exact.
+#[tactic(auto, using(crate::proofs::MinusOne::less_one))]
 pub fn times_minus_one(r: f64, t: f64) -> f64
     requires has_inverse { spec.HasInverse t }
     requires r_is_inverse { r ≡ entry log2p1_compoundf_inv (spec.inverse_index t) }
@@ -105,33 +106,31 @@ fn rounding_test(v: f64, err: f64) -> Option<f64>
     }
     let lb = narrow(v - err);
     let rb = narrow(v + err);
-    if lb != rb {
-        return None;
-    }
-    Some(v)
+    if lb != rb { None } else { Some(v) }
 }
 
 // `rounding_test` by the patterns w of v and e of err. Where e <= w - 40 * 2^52, err is at most 2^-40
 // of v, and so below 2^13 last places of it, or 2^14 of those below a power of two. If no midpoint of
 // two f32s is that near to v, both bounds narrow to one f32.
-#[tactic(auto, using(crate::proofs::Midpoints::clear_of_midpoints, crate::proofs::Midpoints::below_normal, floats::proofs::Laws::Nan::number_of_below))]
+#[tactic(auto, using(crate::proofs::Midpoints::by_pattern))]
 fn pattern_test(w: u64, e: u64) -> Option<f64>
     ensures { result ≡ spec.rounding_test (f64 w) (f64 e) }
 {
     if w < 0x3810_0000_0000_0000 {
-        return None;
-    }
-    if w >= 0x3810_0000_0000_4000
+        None
+    } else if w >= 0x3810_0000_0000_4000
         && w < 0x7fe0_0000_0000_0000
         && e <= w - 0x280_0000_0000_0000
         && (w + 0x1000_2000) % 0x2000_0000 > 0x6000
     {
-        return Some(f64::from_bits(w));
+        Some(f64::from_bits(w))
+    } else {
+        rounding_test(f64_from_bits_with_nan(w), f64_from_bits_with_nan(e))
     }
-    rounding_test(f64_from_bits_with_nan(w), f64_from_bits_with_nan(e))
 }
 
 // Near 2^t, where the rounding test passes.
+#[tactic(auto, using(crate::proofs::Index::two_to_t), unfolding(crate::specs::Fast::exp2_fast))]
 pub fn exp2_fast(t: f64) -> Option<f64>
     requires t_above { T (lt (fin true 75 (pos 1)) t) }
     requires t_below { T (lt t (fin false 1 (pos 7))) }

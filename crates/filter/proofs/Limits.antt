@@ -1,7 +1,7 @@
 -- What the filter's tests say of a value: between two numbers it is bounded on the scale of 1 (`between_bound`), and a bounded value is between the edges (`inside_edges`). Assumes
 -- nothing.
-use Rattle.std.proofs.Common.{◌≡◌, ℕ, ◌+◌, ◌-◌, ◌*◌, ◌^◌, ◌<◌, ◌≤◌, true, false, ◌⊎◌, pos, sym, refl, subst, inl, inr, arith, lit<}
-use lib.Ieee.{Float, fin, fits, of_bits, sub, neg, le, lt}
+use Rattle.std.proofs.Common.{◌≡◌, ℕ, ◌+◌, ◌-◌, ◌*◌, ◌^◌, ◌<◌, ◌≤◌, true, false, ◌⊎◌, pos, negsuc, sym, refl, subst, inl, inr, arith, lit<}
+use lib.Ieee.{Float, fin, binary64, fits, of_bits, sub, neg, le, lt}
 use Rattle.bounds.proofs.Values.{plus, less, one_side, Number}
 use Rattle.bounds.proofs.Scales.{S, unit, Bound, neg_bound, tested}
 use Rattle.bounds.proofs.Compared.{lt_true, units_of_le}
@@ -31,6 +31,38 @@ over_limit {x} {c} K b n e h = lt_true n b.number (go (plus x) (less x) (plus c)
   where
     go : (p n q m k : ℕ) → q ≡ 0 → p + n ≤ k → k < m → q + n < p + m
     go p n q m k e g h = omega arith
+
+-- ---- the numbers of the code
+pub is_minus_151 : of_bits binary64 0xc062e00000000000 ≡ fin true 151 (pos 0)
+unfolding of_bits
+is_minus_151 = refl
+
+pub is_minus_299_halves : of_bits binary64 0xc062b00000000000 ≡ fin true 299 (negsuc 0)
+unfolding of_bits
+is_minus_299_halves = refl
+
+pub is_minus_128 : of_bits binary64 0xc060000000000000 ≡ fin true 1 (pos 7)
+unfolding of_bits
+is_minus_128 = refl
+
+pub is_129 : of_bits binary64 0x4060200000000000 ≡ fin false 129 (pos 0)
+unfolding of_bits
+is_129 = refl
+
+pub is_minus_124 : of_bits binary64 0xc05f000000000000 ≡ fin true 31 (pos 2)
+unfolding of_bits
+is_minus_124 = refl
+
+pub is_124 : of_bits binary64 0x405f000000000000 ≡ fin false 31 (pos 2)
+unfolding of_bits
+is_124 = refl
+
+pub is_minus_1 : of_bits binary64 0xbff0000000000000 ≡ fin true 1 (pos 0)
+unfolding of_bits
+is_minus_1 = refl
+
+-- what proves `low_found` and `high_found`
+pub ruleset edges = (is_minus_151, is_minus_299_halves, is_minus_128, is_129)
 
 -- ---- the numbers of the tests
 -- -150 and 128

@@ -22,8 +22,9 @@ use Rattle.bounds.proofs.Values.{per_one, plus, less, mag, Number}
 use Rattle.bounds.proofs.Scales.{S, one_is, Bound, at}
 use Rattle.bounds.proofs.Distances.{apart_at}
 use Rattle.bounds.proofs.Apart.{apart_same}
-use Rattle.bounds.proofs.Compared.{units_in_size, units_of_not_lt}
+use Rattle.bounds.proofs.Compared.{le_of_units, units_in_size, units_of_not_lt}
 use Rattle.filter.specs.Plain.{part_of, rest_of, plain_pattern, switch_gap, part_end, rest_end, clear_of_switches, is_tiny, Middle}
+pub use Rattle.filter.proofs.Limits.{is_minus_124, is_124}
 use Rattle.filter.proofs.Limits.{InsideEdges, inside_edges, middle_bound, part_bound, rest_bound}
 use Rattle.filter.proofs.Power.{Unscaled, power_beside}
 use Rattle.filter.proofs.NotZero.{not_zero}
@@ -97,6 +98,18 @@ signed (fin s m e) h = record { sign = s; has = refl }
 pub bounded : (t : Float) → T (fits binary64 t) → T (le (fin true 31 (pos 2)) t) → T (le t (fin false 31 (pos 2))) → Bound S (124 * 2 ^ 53) t
 bounded t f g h = middle_bound (record { held = f; plain = between_finite (fin true 31 (pos 2)) t (fin false 31 (pos 2)) tt tt g h }) (is_true _ g) (is_true _ h)
 
+-- not below -124 and not above 124, and not tiny
+pub middle_of : (t : Float) → T (fits binary64 t) → T (finite t) → lt t (fin true 31 (pos 2)) ≡ false → lt (fin false 31 (pos 2)) t ≡ false → is_tiny t ≡ false → Middle t
+unfolding fits
+middle_of t f p g h a =
+    let n : Number t = record { held = f; plain = p } in
+    let low : Number (fin true 31 (pos 2)) = record { held = tt; plain = tt } in
+    let high : Number (fin false 31 (pos 2)) = record { held = tt; plain = tt } in
+    record { least = le_of_units (fin true 31 (pos 2)) t low n (units_of_not_lt n low g); most = le_of_units t (fin false 31 (pos 2)) n high (units_of_not_lt high n h); apart = a }
+
+-- what proves `plain_found`
+pub ruleset ends = (is_minus_124, is_124, middle_of)
+
 -- between the edges k can be cast, and what is left of t has a power
 module _ (t : Float) (f : T (fits binary64 t)) (edges : InsideEdges t) where
   above : T (lt (fin true 75 (pos 1)) t)
@@ -118,18 +131,6 @@ module _ (t : Float) (f : T (fits binary64 t)) (edges : InsideEdges t) where
 -- and a t of 124 at most is between them
 pub edges_of : {t : Float} → Bound S (124 * 2 ^ 53) t → InsideEdges t
 edges_of b = inside_edges (at (125 * 2 ^ 53) b tt)
-
--- what is asked of a t that is split in two steps
-pub record Splits (t : Float) : Type 0 where
-  pub above : T (lt (fin true 75 (pos 1)) t)
-  pub below : T (lt t (fin false 1 (pos 7)))
-  pub other : eq t Special.zero ≡ false
-
-pub middle_splits : (t : Float) → T (fits binary64 t) → Middle t → Splits t
-middle_splits t f m =
-    let b = bounded t f m.least m.most in
-    let edges = edges_of b in
-    record { above = subst T (sym edges.above) tt; below = subst T (sym edges.below) tt; other = not_zero t (lt_of_lt_of_le (lit< tt) (not_small b.number m.apart)) }
 
 module _ (t : Float) (b : Bound S (124 * 2 ^ 53) t) where
   small : SizeAtMost 124 t
@@ -161,3 +162,25 @@ module _ (t : Float) (b : Bound S (124 * 2 ^ 53) t) where
       let o = switch_bounds e in
       let s = signed t b.number.plain in
       scaled_range (plain_pattern t) (to_signed 63 (nearest_whole t)) (power_beside s.sign t t s.has s.has b.number (apart_at (2 ^ 20) (apart_same t) tt) b o.0 o.1).plain whole_within
+
+-- ---- what proves `in_two_steps`
+module _ (t : Float) (f : T (fits binary64 t)) (m : Middle t) where
+  start : Bound S (124 * 2 ^ 53) t
+  start = bounded t f m.least m.most
+
+  pub splits_above : T (lt (fin true 75 (pos 1)) t)
+  splits_above = subst T (sym (edges_of start).above) tt
+
+  pub splits_below : T (lt t (fin false 1 (pos 7)))
+  splits_below = subst T (sym (edges_of start).below) tt
+
+  pub splits_other : eq t Special.zero ≡ false
+  splits_other = not_zero t (lt_of_lt_of_le (lit< tt) (not_small start.number m.apart))
+
+  pub plain_least : clear_of_switches switch_gap (part_of t) (rest_of t) ≡ true → 898 * 2 ^ 52 ≤ scaled (plain_pattern t) (to_signed 63 (nearest_whole t))
+  plain_least e = (plain_range t start e).0
+
+  pub plain_below : clear_of_switches switch_gap (part_of t) (rest_of t) ≡ true → scaled (plain_pattern t) (to_signed 63 (nearest_whole t)) < 1148 * 2 ^ 52
+  plain_below e = (plain_range t start e).1
+
+pub ruleset two_steps = (splits_above, splits_below, splits_other, plain_least, plain_below)

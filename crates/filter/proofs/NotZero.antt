@@ -1,17 +1,19 @@
--- For a t from -150 to 128 that is not 0, and k its nearest whole number, with +0 for -0: what is left of t over k is the same (`part_is`) and has a power, and k can be cast. And a t
--- that has a size is not 0 (`not_zero`). Assumes nothing.
-use Rattle.std.proofs.Common.{◌≡◌, ℕ, zero, suc, ◌+◌, ◌*◌, ◌^◌, ◌<◌, Bool, true, false, ◌&&◌, ◌||◌, T, pos, sym, refl, ap, ◌∙◌, subst, inl, inr, true≢false, lt_irrefl, zero-lt-suc, zero-mul, mul-pos, eqb, ne_eqb, arith, w64, to_z, of_z}
+-- What proves `Split::of`: for a t from -150 to 128 the index of the power is inside the table, and for one that is not 0 what is left over its nearest whole number k is the same whether k
+-- is +0 or -0 (`part_is`). And a t that has a size is not 0 (`not_zero`). Assumes nothing.
+use Rattle.std.proofs.Common.{◌≡◌, ℕ, zero, suc, ◌+◌, ◌*◌, ◌^◌, ◌<◌, ◌≤◌, Bool, true, false, ◌&&◌, ◌||◌, T, pos, sym, refl, ◌∙◌, subst, inl, inr, true≢false, lt_irrefl, zero-lt-suc, zero-mul, mul-pos, eqb, ne_eqb, lit<, arith}
 use mathlib.Core.Bool.{beq}
-use lib.Ieee.{Float, nan, inf, fin, binary64, up, down, fits, lt, eq, to_signed, in_signed}
+use lib.Ieee.{Float, nan, inf, fin, binary64, up, down, fits, lt, eq}
 use lib.Ieee.Fits.{up_pos}
 use Rattle.floats.specs.Operations.{◌⊕◌, ◌⊖◌}
+use Rattle.floats.specs.OnBits.{absolute}
 use Rattle.floats.specs.Narrowing.{nearest_whole}
 use Rattle.floats.proofs.Laws.Cast.{whole_fits}
-use Rattle.floats.proofs.Laws.SmallWhole.{plus_zero, NotMinusZero, left_over}
+use Rattle.floats.proofs.Laws.SmallWhole.{plus_zero, small_of_size, NotMinusZero, left_over}
 use Rattle.floats.proofs.Laws.Units.{exponent}
 use Rattle.special.specs.Special as Special
-use Rattle.fast_path.specs.Fast.{HasPower}
-use Rattle.fast_path.proofs.Index.{Castable, whole_k, distance_index}
+use Rattle.fast_path.specs.Fast.{power_place, power_index}
+pub use Rattle.fast_path.proofs.Index.{cast_defined, cast_read}
+use Rattle.fast_path.proofs.Index.{exponent_small, distance_index, distance_below}
 use Rattle.bounds.proofs.Values.{mag}
 use Rattle.filter.specs.Plain.{part_of}
 
@@ -26,23 +28,23 @@ not_minus_zero (fin true zero e) h = absurd (true≢false (sym (level (0 * up e 
     level a b x y = rw (x, y) refl
 not_minus_zero (fin true (suc m) e) h = inr (zero-lt-suc m)
 
-module _ (t k : Float) (f : T (fits binary64 t)) (above : T (lt (fin true 75 (pos 1)) t)) (below : T (lt t (fin false 1 (pos 7)))) (other : eq t Special.zero ≡ false) (e : k ≡ nearest_whole t ⊕ plus_zero) where
-  pub part_is : t ⊖ k ≡ part_of t
+module _ (t : Float) (f : T (fits binary64 t)) (above : T (lt (fin true 75 (pos 1)) t)) (below : T (lt t (fin false 1 (pos 7)))) where
+  pub whole_small : T (lt (absolute t) (fin false 1 (pos 51)))
+  whole_small = small_of_size 1000 t (lit< tt) (exponent_small t above below)
+
+  pub index_below : power_index (part_of t) < 33
   unfolding part_of
-  part_is = ap (λ (n : Float). t ⊖ n) e ∙ left_over t (nearest_whole t) (whole_fits t) (not_minus_zero t other)
+  index_below = distance_below t f above below
 
-  pub has_power : HasPower (t ⊖ k)
+  pub index_place : 0x10010 ≤ power_place (part_of t)
   unfolding part_of
-  has_power = subst HasPower (sym part_is) (distance_index t f above below)
+  index_place = (distance_index t f above below).0
 
-  castable : Castable (nearest_whole t)
-  castable = whole_k t f above below
+pub part_is : (t : Float) → eq t Special.zero ≡ false → t ⊖ (nearest_whole t ⊕ plus_zero) ≡ part_of t
+unfolding part_of
+part_is t other = left_over t (nearest_whole t) (whole_fits t) (not_minus_zero t other)
 
-  pub defined : T (in_signed binary64 63 k)
-  defined = subst (λ (n : Float). T (in_signed binary64 63 n)) (sym e) castable.defined
-
-  pub read : to_z w64 (of_z w64 (to_signed 63 k)) ≡ to_signed 63 (nearest_whole t)
-  read = ap (λ (n : Float). to_z w64 (of_z w64 (to_signed 63 n))) e ∙ castable.read
+pub ruleset split = (whole_small, index_below, index_place, part_is, cast_defined, cast_read)
 
 -- ---- from the size
 pub not_zero : (t : Float) → 0 < mag t → eq t Special.zero ≡ false

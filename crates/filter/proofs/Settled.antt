@@ -1,27 +1,31 @@
 -- What the filter finds of the plain t' is right of t = l×y as the fast path has it (`plain_right`): at the edges by how near the two are, and between them by the nearness of the two powers. Assumes
 -- nothing.
-use Rattle.std.proofs.Common.{◌≡◌, ℕ, ◌+◌, ◌-◌, ◌*◌, ◌/◌, ◌%◌, ◌^◌, ◌<◌, ◌≤◌, Bool, true, false, cond, ◌&&◌, ltb, ◌⊎◌, pos, refl, ap, ◌∙◌, inl, inr, le_trans, le_of_eq, lt_of_lt_of_le, add-zero, mul_assoc, zero-add, arith, lit<, lit≤, ltb-true, Some, None}
+use Rattle.std.proofs.Common.{◌≡◌, ℕ, ◌+◌, ◌-◌, ◌*◌, ◌/◌, ◌%◌, ◌^◌, ◌<◌, ◌≤◌, Bool, true, false, cond, ◌&&◌, ltb, ◌⊎◌, T, pos, Option, sym, subst, refl, ap, ◌∙◌, inl, inr, le_trans, le_of_eq, lt_of_lt_of_le, add-zero, mul_assoc, zero-add, arith, lit<, lit≤, ltb-true, Some, None}
+use lib.Ieee.Scale.{finite}
 use lib.Ieee.{Float, fin, binary32, fits, of_bits, to_signed, le, lt, eq}
-use Rattle.floats.specs.Operations.{◌⊖◌, f64}
+use Rattle.floats.specs.Operations.{◌⊖◌, ◌⊗◌, f64}
 use Rattle.floats.specs.Narrowing.{nearest_whole}
 use Rattle.floats.proofs.Laws.Units.{HasSign}
+use Rattle.special.specs.Operands.{Tabled}
 use Rattle.special.specs.Special as Special
 use Rattle.fast_path.specs.Scaling.{scaled}
-use Rattle.fast_path.specs.Fast.{exp2_reduced, rounding_test, exp2_fast}
+use Rattle.fast_path.specs.Fast.{compoundf_log2p1_fast, exp2_reduced, rounding_test, exp2_fast}
 use Rattle.bounds.proofs.Values.{plus, less, mag, one_side, Number}
 use Rattle.bounds.proofs.Scales.{S, Bound, at}
 use Rattle.bounds.proofs.Distances.{Apart, bound_near}
 use Rattle.bounds.proofs.Compared.{le_true, units_of_not_lt}
 use Rattle.bounds.proofs.Nearest.{sign_above, sign_below}
+use Rattle.filter.specs.declared.Found.{Found}
 use Rattle.filter.specs.declared.Found.TheVariants.{Slow, Low, High, One}
 use Rattle.filter.specs.Midpoints.{narrowed_pattern}
-use Rattle.filter.specs.Plain.{part_of, rest_of, plain_pattern, margin, switch_gap, near_midpoint, fast_or, rounded_pattern, clear_of_switches, middle_found, low_edge, slow_from, slow_to, low_found, high_edge, high_found, tiny_found, is_tiny, plain_found}
+use Rattle.filter.specs.Plain.{plain_log2p1, part_of, rest_of, plain_pattern, margin, switch_gap, near_midpoint, fast_or, rounded_pattern, clear_of_switches, middle_found, low_edge, slow_from, slow_to, low_found, high_edge, high_found, tiny_found, is_tiny, plain_found}
 use Rattle.filter.specs.Right.{Inside, Passed, Right}
 use Rattle.filter.proofs.Limits.{middle_bound}
 use Rattle.filter.proofs.Power.{PowerBeside, power_beside}
 use Rattle.filter.proofs.Accepted.{Accepted, accepted}
 use Rattle.filter.proofs.Middle.{not_small, whole_within, switch_bounds}
-use Rattle.filter.proofs.Times.{TimesBeside}
+use Rattle.filter.proofs.Logarithm.{log_beside}
+use Rattle.filter.proofs.Times.{single, TimesBeside, times_beside}
 use Rattle.filter.proofs.Near.{near_right}
 use Rattle.filter.proofs.Edges.{one_pos, not_low, not_high, not_tiny, low_edge_lem, high_edge_lem, at_one, below_normals}
 
@@ -170,3 +174,15 @@ plain_right {t} {t'} b = go (lt t' (fin true 31 (pos 2))) refl (lt (fin false 31
     go false e false f true g = tiny_right b
     go false e false f false g =
         middle_right t t' b (middle_bound b.beside (le_true low b.beside (units_of_not_lt b.beside low e)) (le_true b.beside high (units_of_not_lt high b.beside f))) (not_small b.beside g)
+
+-- ---- what proves `filtered`
+beside : (x y : Float) → Tabled x y → TimesBeside (compoundf_log2p1_fast x ⊗ y) (plain_log2p1 x ⊗ y)
+beside x y a = times_beside (log_beside x a.base.x_fits a.base.x_finite a.base.x_above) (single y a.y_fits a.y_finite)
+
+pub finite_product : (x y : Float) → Tabled x y → T (finite (plain_log2p1 x ⊗ y))
+finite_product x y a = (beside x y a).beside.plain
+
+pub right : (x y : Float) (r : Option Found) → Tabled x y → r ≡ plain_found (plain_log2p1 x ⊗ y) → Right r (compoundf_log2p1_fast x ⊗ y)
+right x y r a e = subst (λ (f : Option Found). Right f (compoundf_log2p1_fast x ⊗ y)) (sym e) (plain_right (beside x y a))
+
+pub ruleset filtered = (finite_product, right)

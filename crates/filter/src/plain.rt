@@ -4,6 +4,8 @@ ghost use Rattle.filter.specs.Plain as spec;
 
 use fast_path::evaluation::MulAdd;
 
+const MINUS_ONE: f64 = -1.0;
+
 // a * b + c by a product and a sum.
 pub struct Plain;
 
@@ -14,7 +16,8 @@ impl MulAdd for Plain {
         a * b + c
     }
 
+    #[tactic(auto, using(crate::proofs::Limits::is_minus_1))]
     fn times_minus_one(r: f64, t: f64) -> f64 {
-        r * t + -1.0
+        r * t + MINUS_ONE
     }
 }

@@ -29,6 +29,7 @@ pub struct Split {
 
 impl Split {
     // Of a t from -150 to 128 that is not 0.
+    #[tactic(auto, using(crate::proofs::NotZero::split), unfolding(crate::specs::Plain::rest_of))]
     pub fn of(t: f64) -> Split
         requires t_above { T (lt (fin true 75 (pos 1)) t) }
         requires t_below { T (lt t (fin false 1 (pos 7))) }

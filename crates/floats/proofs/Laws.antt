@@ -1,4 +1,4 @@
--- Laws of the kit's account of IEEE 754, each stated once over the format where it holds for both. The first fifteen are for every crate above;
+-- Laws of the kit's account of IEEE 754, each stated once over the format where it holds for both. The first fourteen are for every crate above;
 -- the last five say why the functions of this crate are right.
 pub mod Tests  -- a choice by a test whose outcome is known
 pub mod Nan  -- which values and patterns are a NaN's

@@ -1,28 +1,8 @@
-// The absolute value and the test for a whole number that pxfm 0.1.30 has in `common.rs` (NOTICE), each
-// worked out on bits, and the test for a range about 0.
+// The test for a whole number that pxfm 0.1.30 has in `common.rs` (NOTICE), worked out on bits, and the
+// test for a range about 0.
 ghost use Rattle.std.specs.Prelude.{◌≡◌, from_bits};
 ghost use Rattle.std.specs.Float.{binary32};
-ghost use Rattle.floats.specs.OnBits.{absolute, is_integer, within};
-
-// |x| of an f32. A NaN gives the NaN.
-pub fn absf(x: f32) -> f32
-    ensures { result ≡ absolute x }
-{
-    if x != x {
-        return x;
-    }
-    f32::from_bits(f32::to_bits(x) % 0x8000_0000)
-}
-
-// |x| of an f64. A NaN gives the NaN.
-pub fn abs(x: f64) -> f64
-    ensures { result ≡ absolute x }
-{
-    if x != x {
-        return x;
-    }
-    f64::from_bits(f64::to_bits(x) % 0x8000_0000_0000_0000)
-}
+ghost use Rattle.floats.specs.OnBits.{is_integer, within};
 
 // Whether the f32 of the pattern n is a whole number. As in the source a zero does not count as
 // one, and an infinity and a NaN do.

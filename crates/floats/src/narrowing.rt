@@ -1,15 +1,8 @@
-// Widening f32 to f64, and narrowing f64 to f32. The language's `as` is defined only where it
-// loses nothing, so narrowing is worked out from the bits.
+// Narrowing f64 to f32. The language's `as` is defined only where it loses nothing, so narrowing is
+// worked out from the bits.
 ghost use Rattle.std.specs.Prelude.{◌≡◌, ◌≤◌, not, T, from_bits, is_nan, to_bits};
 ghost use Rattle.std.specs.Float.{binary32, binary64};
 ghost use Rattle.floats.specs.Narrowing.{narrowed, NearestF32Ends};
-
-// The f64 of the same value. A NaN gives the NaN.
-pub fn widen(x: f32) -> f64
-    ensures { result ≡ x }
-{
-    std::num::f32_to_f64_with_nan(x)
-}
 
 // The nearest f32, ties to even, with subnormals, overflow to infinity and the sign of zero kept. A
 // NaN gives the NaN. `std::num::nearest_f64_to_f32_with_nan` has the same values, but takes three times

@@ -2,7 +2,7 @@
 use mathlib.Core.Path.{◌≡◌, refl}
 use mathlib.Core.List.{List, [], ◌∷◌}
 use Prim.Native.Nat.{ℕ}
-use Rattle.text.specs.Bytes.{begins, all, leading}
+use Rattle.text.specs.Bytes.{all}
 use Rattle.text.specs.Digits.{is_decimal, is_hex, digit_value, value_from, value}
 use Rattle.lines.specs.Format.{pair, id_digits, is_d, has_id, after_id, hex_digits, has_hex, has_x, after_x, has_y, read_line}
 use Rattle.std.specs.Prelude.{Ok, Err}
@@ -15,21 +15,21 @@ seven =
 
 -- it says its id and the patterns of 0.5 and 2
 pub seven_read : read_line seven ≡ Ok (pair 7 0x3f000000 0x40000000)
-unfolding begins all leading is_decimal is_hex digit_value value_from value id_digits is_d has_id after_id hex_digits has_hex has_x after_x has_y read_line
+unfolding all is_decimal is_hex digit_value value_from value id_digits is_d has_id after_id hex_digits has_hex has_x after_x has_y read_line
 seven_read = refl
 
 -- "D is 0 to 65535 in decimal without leading zeros": `id=07 x=3f000000 y=40000000` is refused
 pub leading_zero : read_line (105 ∷ 100 ∷ 61 ∷ 48 ∷ 55 ∷ 32 ∷ 120 ∷ 61 ∷ 51 ∷ 102 ∷ 48 ∷ 48 ∷ 48 ∷ 48 ∷ 48 ∷ 48 ∷ 32 ∷ 121 ∷ 61 ∷ 52 ∷ 48 ∷ 48 ∷ 48 ∷ 48 ∷ 48 ∷ 48 ∷ 48 ∷ []) ≡ Err NoId
-unfolding begins all leading is_decimal is_hex digit_value value_from value id_digits is_d has_id read_line
+unfolding all is_decimal is_hex digit_value value_from value id_digits is_d has_id read_line
 leading_zero = refl
 
 -- "Lines are tried in the order 1 to 4": `id=7 x=3F000000 y=4000000` is refused for its x, and with a good x for its y
 pub x_first : read_line (105 ∷ 100 ∷ 61 ∷ 55 ∷ 32 ∷ 120 ∷ 61 ∷ 51 ∷ 70 ∷ 48 ∷ 48 ∷ 48 ∷ 48 ∷ 48 ∷ 48 ∷ 32 ∷ 121 ∷ 61 ∷ 52 ∷ 48 ∷ 48 ∷ 48 ∷ 48 ∷ 48 ∷ 48 ∷ []) ≡ Err NoX
-unfolding begins all leading is_decimal is_hex digit_value value_from value id_digits is_d has_id after_id hex_digits has_hex has_x after_x has_y read_line
+unfolding all is_decimal is_hex digit_value value_from value id_digits is_d has_id after_id hex_digits has_hex has_x after_x has_y read_line
 x_first = refl
 
 pub then_y : read_line (105 ∷ 100 ∷ 61 ∷ 55 ∷ 32 ∷ 120 ∷ 61 ∷ 51 ∷ 102 ∷ 48 ∷ 48 ∷ 48 ∷ 48 ∷ 48 ∷ 48 ∷ 32 ∷ 121 ∷ 61 ∷ 52 ∷ 48 ∷ 48 ∷ 48 ∷ 48 ∷ 48 ∷ 48 ∷ []) ≡ Err NoY
-unfolding begins all leading is_decimal is_hex digit_value value_from value id_digits is_d has_id after_id hex_digits has_hex has_x after_x has_y read_line
+unfolding all is_decimal is_hex digit_value value_from value id_digits is_d has_id after_id hex_digits has_hex has_x after_x has_y read_line
 then_y = refl
 
 -- and a line of 31 bytes is refused for that, whatever it says
@@ -39,5 +39,5 @@ too_long = refl
 
 -- "An empty line is 2"
 pub empty_line : read_line [] ≡ Err NoId
-unfolding begins has_id read_line
+unfolding has_id read_line
 empty_line = refl

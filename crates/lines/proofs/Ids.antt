@@ -1,18 +1,17 @@
 -- The D of a line: digits that are one, and the digits of an id. Assumes nothing.
 use borrow.Author.Tests.{leb-true, ltb-true, ltb-false, eqb-true, eqb-false, le-leb, lt-leb, le-ltb, lt-ltb, eq-eqb, ne_eqb, not-true}
-use mathlib.Core.Path.{◌≡◌, refl, sym, ◌∙◌, ap}
+use mathlib.Core.Path.{◌≡◌, refl, sym, ◌∙◌}
 use mathlib.Core.Bool.{Bool, true, false, not, cond, ◌&&◌, ◌||◌, or-true}
 use mathlib.Core.Logic.{◌⊎◌, inl, inr, ⊎_elim}
 use mathlib.Core.List.{List, [], ◌∷◌}
 use Prim.Native.Nat.{ℕ, zero, suc, ◌+◌, ◌-◌, ◌*◌, ◌^◌, ◌≤◌, ◌<◌}
 use native.Mathlib.Omega.{arith}
-use native.Mathlib.Nat.{le_trans, lt_of_not-le, pow-le-pow_right}
+use native.Mathlib.Nat.{add_comm, le_trans, lt_of_not-le, pow-le-pow_right}
 use lib.Dec.{eqb, ltb, leb, lit<}
 use lib.ListN.{length, get_or, take, drop, drop_of_length-le}
-use Rattle.std.specs.List.{prefix_len, position}
-use Rattle.std.specs.Option.{unwrap_or}
-use Rattle.std.specs.Prelude.{Option, Some, None}
-use Rattle.text.specs.Bytes.{all, leading}
+use Rattle.std.specs.List.{prefix_len, take_while}
+use Rattle.std.specs.Prelude.{Some, None}
+use Rattle.text.specs.Bytes.{all}
 use Rattle.text.specs.Digits.{places, decimal, is_decimal, value, value_from}
 use native.Mathlib.Numerals.{add-one}
 use lib.Seq.{drop-cons}
@@ -45,49 +44,14 @@ d_is ds d = rw (lt-ltb 0 (length ds) d.some, le-leb (value 10 ds) largest_id d.s
     go (inl e) = rw (eq-eqb (length ds) 1 e) refl
     go (inr f) = rw (ne_eqb (get_or ds 0 0) 48 f) (or-true (eqb (length ds) 1))
 
--- the elements at the front of a list, as far as a test holds: where they end, and what they are
-leading_length : (test : ℕ → Bool) (l : List ℕ) → length (leading test l) ≡ prefix_len (λ b. not (not (test b))) l
-unfolding leading
-leading_length test [] = refl
-leading_length test (b ∷ l) = go (test b) (leading_length test l)
+-- the digits at the front of a list are digits
+pub digits_tested : (l : List ℕ) → all is_decimal (take_while is_decimal l) ≡ true
+unfolding all
+digits_tested [] = refl
+digits_tested (b ∷ l) = go (is_decimal b) refl (digits_tested l)
   where
-    go : (t : Bool) → length (leading test l) ≡ prefix_len (λ b. not (not (test b))) l
-        → length (cond t (b ∷ leading test l) []) ≡ cond (not (not t)) (1 + prefix_len (λ b. not (not (test b))) l) 0
-    go true e = omega arith
-    go false e = refl
-
-leading_most : (test : ℕ → Bool) (l : List ℕ) → length (leading test l) ≤ length l
-unfolding leading
-leading_most test [] = omega arith
-leading_most test (b ∷ l) = go (test b) (leading_most test l)
-  where
-    go : (t : Bool) → length (leading test l) ≤ length l → length (cond t (b ∷ leading test l) []) ≤ length (b ∷ l)
-    go true h = omega arith
-    go false h = omega arith
-
-pub leading_end : (test : ℕ → Bool) (l : List ℕ) (r : Option ℕ) → r ≡ position (λ b. not (test b)) l → unwrap_or r (length l) ≡ length (leading test l)
-leading_end test l r e = rw (e, ← leading_length test l) (go (ltb (length (leading test l)) (length l)) refl)
-  where
-    go : (t : Bool) → ltb (length (leading test l)) (length l) ≡ t → unwrap_or (cond t (Some (length (leading test l))) None) (length l) ≡ length (leading test l)
-    go true k = refl
-    go false k = omega (arith, ltb-false (length (leading test l)) (length l) k, leading_most test l)
-
-pub leading_front : (test : ℕ → Bool) (l : List ℕ) → leading test l ≡ take (length (leading test l)) l
-unfolding leading
-leading_front test [] = refl
-leading_front test (b ∷ l) = go (test b) (leading_front test l)
-  where
-    go : (t : Bool) → leading test l ≡ take (length (leading test l)) l → cond t (b ∷ leading test l) [] ≡ take (length (cond t (b ∷ leading test l) [])) (b ∷ l)
-    go true e = ap (λ (m : List ℕ). b ∷ m) e
-    go false e = refl
-
-pub leading_tested : (test : ℕ → Bool) (l : List ℕ) → all test (leading test l) ≡ true
-unfolding leading all
-leading_tested test [] = refl
-leading_tested test (b ∷ l) = go (test b) refl (leading_tested test l)
-  where
-    go : (t : Bool) → test b ≡ t → all test (leading test l) ≡ true → all test (cond t (b ∷ leading test l) []) ≡ true
-    go true e a = rw (e, a) refl
+    go : (t : Bool) → is_decimal b ≡ t → all is_decimal (take_while is_decimal l) ≡ true → all is_decimal (take (cond t (1 + prefix_len is_decimal l) 0) (b ∷ l)) ≡ true
+    go true e a = rw (add_comm 1 (prefix_len is_decimal l), add-one (prefix_len is_decimal l), e, a) refl
     go false e a = refl
 
 -- the code's tests of digits: there are none, or more than one with a zero first; else the number decides

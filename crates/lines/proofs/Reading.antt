@@ -1,6 +1,6 @@
 -- What the code tests at the front of a text, in the words of the definition. Assumes nothing.
-use borrow.Author.Tests.{lt-ltb, le-ltb, ltb-true, ltb-false, eqb-true, eqb-false, eq-eqb, ne_eqb}
-use mathlib.Core.Path.{◌≡◌, refl, sym, ◌∙◌, ap}
+use borrow.Author.Tests.{lt-ltb, le-ltb, ltb-true, ltb-false, eqb-true, eq-eqb, ne_eqb}
+use mathlib.Core.Path.{◌≡◌, refl, sym, ap}
 use mathlib.Core.Bool.{Bool, true, false, ◌&&◌, and-true, and-false}
 use mathlib.Core.List.{List, [], ◌∷◌}
 use Prim.Native.Nat.{ℕ, ◌+◌, ◌≤◌, ◌<◌}
@@ -9,28 +9,19 @@ use lib.Dec.{eqb, ltb, lit<}
 use lib.ListN.{length, get_or, take, drop, drop_of_length-le, get_or-eq_default, length-take, length-drop}
 use lib.Seq.{drop-cons, drop-drop}
 use lib.Pointwise.{pointwise}
-use Rattle.text.specs.Bytes.{begins, all, leading}
+use Rattle.std.specs.List.{starts_with, take_while}
+use Rattle.std.proofs.lemmas.Cmp.{nat_list_eq_equiv}
+use Rattle.text.specs.Bytes.{all}
 use Rattle.text.specs.Digits.{is_hex, is_decimal, value}
 use Rattle.std.specs.Prelude.{Ok, Err}
 use Rattle.text.proofs.Numerals.{both}
-use Rattle.lines.proofs.Ids.{leading_tested}
+use Rattle.lines.proofs.Ids.{digits_tested}
 use Rattle.lines.specs.declared.Refusal.TheVariants.{TooLong, NoId, NoX, NoY}
 use Rattle.lines.specs.Format.{longest, pair, read_line, id_key, x_key, y_key, id_digits, is_d, has_id, after_id, hex_digits, has_hex, has_x, after_x, has_y}
 
--- equality of numbers is tested either way round
-eqb_sym : (a b : ℕ) → eqb a b ≡ eqb b a
-eqb_sym a b = go (eqb a b) refl
-  where
-    go : (t : Bool) → eqb a b ≡ t → eqb a b ≡ eqb b a
-    go true e = e ∙ sym (eq-eqb b a (sym (eqb-true a b e)))
-    go false e = e ∙ sym (ne_eqb b a (λ k. eqb-false a b e (sym k)))
-
--- a prefix is stripped where the list begins with it
-pub begins_is : (front l : List ℕ) → begins front l ≡ pointwise eqb (take (length front) l) front
-unfolding begins
-begins_is [] l = refl
-begins_is (b ∷ front) [] = refl
-begins_is (b ∷ front) (c ∷ l) = rw (eqb_sym b c, begins_is front l) refl
+-- a prefix is stripped where the list starts with it
+pub starts : (front l : List ℕ) → starts_with eqb l front ≡ pointwise eqb (take (length front) l) front
+starts front l = nat_list_eq_equiv.symm front (take (length front) l)
 
 -- a byte that is not 0 is stripped where it stands at a place
 pub stands : (l : List ℕ) (at b : ℕ) → 0 < b → eqb (get_or l at 0) b ≡ pointwise eqb (take 1 (drop at l)) (b ∷ [])
@@ -46,12 +37,12 @@ stands l at b h = go (ltb at (length l)) refl
 module _ (key l : List ℕ) where
   pub no_key : pointwise eqb (take (length key) l) key ≡ false → has_hex key l ≡ false
   unfolding has_hex
-  no_key h = rw (begins_is key l, h) refl
+  no_key h = rw (starts key l, h) refl
 
   module _ (rest : List ℕ) (e : rest ≡ drop (length key) l) where
     pub too_few : length rest < 8 → has_hex key l ≡ false
     unfolding has_hex hex_digits
-    too_few h = rw (← e, ne_eqb (length (take 8 rest)) 8 (λ k. omega (arith, k, length-take 8 rest)), and-false (begins key l)) refl
+    too_few h = rw (← e, ne_eqb (length (take 8 rest)) 8 (λ k. omega (arith, k, length-take 8 rest)), and-false (starts_with eqb l key)) refl
 
     module _ (digits : List ℕ) (d : digits ≡ take 8 rest) where
       pub no_h : all is_hex digits ≡ false → has_hex key l ≡ false
@@ -62,7 +53,7 @@ module _ (key l : List ℕ) where
       unfolding has_hex hex_digits
       h_stands k n h =
           let t : length (take 8 rest) ≡ 8 = omega (arith, length-take 8 rest) in
-          rw (begins_is key l, k, ← e, ← d, h, d, t) refl
+          rw (starts key l, k, ← e, ← d, h, d, t) refl
 
       pub digits_are : digits ≡ hex_digits key l
       unfolding hex_digits
@@ -103,8 +94,8 @@ pub ruleset x_steps = (no_x, no_space, x_stands, x_after)
 ten_bytes : (a b : ℕ) (l : List ℕ) → has_hex (a ∷ b ∷ []) l ≡ true → 10 ≤ length l
 unfolding has_hex hex_digits
 ten_bytes a b l h =
-    let t = both (begins (a ∷ b ∷ []) l && eqb (length (take 8 (drop 2 l))) 8) (all is_hex (take 8 (drop 2 l))) h in
-    let u = both (begins (a ∷ b ∷ []) l) (eqb (length (take 8 (drop 2 l))) 8) t.0 in
+    let t = both (starts_with eqb l (a ∷ b ∷ []) && eqb (length (take 8 (drop 2 l))) 8) (all is_hex (take 8 (drop 2 l))) h in
+    let u = both (starts_with eqb l (a ∷ b ∷ [])) (eqb (length (take 8 (drop 2 l))) 8) t.0 in
     omega (arith, eqb-true (length (take 8 (drop 2 l))) 8 u.1, length-take 8 (drop 2 l), length-drop 2 l)
 
 -- y
@@ -128,39 +119,39 @@ pub ruleset y_steps = (no_y, more, y_stands)
 module _ (l rest : List ℕ) (e : rest ≡ drop 3 l) where
   pub no_id_key : pointwise eqb (take 3 l) id_key ≡ false → has_id l ≡ false
   unfolding has_id
-  no_id_key h = rw (begins_is id_key l, h) refl
+  no_id_key h = rw (starts id_key l, h) refl
 
-  module _ (digits : List ℕ) (d : digits ≡ leading is_decimal rest) where
+  module _ (digits : List ℕ) (d : digits ≡ take_while is_decimal rest) where
     pub ids_are : digits ≡ id_digits l
     unfolding id_digits
     ids_are = rw (d, e) refl
 
     pub no_d : is_d digits ≡ false → has_id l ≡ false
     unfolding has_id
-    no_d h = rw (← ids_are, h, and-false (begins id_key l)) refl
+    no_d h = rw (← ids_are, h, and-false (starts_with eqb l id_key)) refl
 
-  module _ (end : List ℕ) (f : end ≡ drop (length (leading is_decimal rest)) rest) where
+  module _ (end : List ℕ) (f : end ≡ drop (length (take_while is_decimal rest)) rest) where
     place : drop (3 + length (id_digits l)) l ≡ end
     unfolding id_digits
-    place = rw (f, e) (sym (drop-drop (length (leading is_decimal (drop 3 l))) 3 l))
+    place = rw (f, e) (sym (drop-drop (length (take_while is_decimal (drop 3 l))) 3 l))
 
     pub no_id_space : pointwise eqb (take 1 end) (32 ∷ []) ≡ false → has_id l ≡ false
     unfolding has_id
     no_id_space h = rw (spaced l (3 + length (id_digits l)) end (sym place), h) (and-false _)
 
-    pub id_stands : (digits : List ℕ) → digits ≡ leading is_decimal rest → pointwise eqb (take 3 l) id_key ≡ true → is_d digits ≡ true → pointwise eqb (take 1 end) (32 ∷ []) ≡ true
+    pub id_stands : (digits : List ℕ) → digits ≡ take_while is_decimal rest → pointwise eqb (take 3 l) id_key ≡ true → is_d digits ≡ true → pointwise eqb (take 1 end) (32 ∷ []) ≡ true
         → has_id l ≡ true
     unfolding has_id
-    id_stands digits d k h s = rw (spaced l (3 + length (id_digits l)) end (sym place), begins_is id_key l, k, ← ids_are digits d, h, s) refl
+    id_stands digits d k h s = rw (spaced l (3 + length (id_digits l)) end (sym place), starts id_key l, k, ← ids_are digits d, h, s) refl
 
     pub id_after : (after : List ℕ) → after ≡ drop 1 end → after ≡ after_id l
     unfolding after_id
     id_after after a = rw (a, ← place) (drop-drop 1 (3 + length (id_digits l)) l)
 
-pub all_leading : (digits rest : List ℕ) → digits ≡ leading is_decimal rest → all is_decimal digits ≡ true
-all_leading digits rest d = rw d (leading_tested is_decimal rest)
+pub all_digits : (digits rest : List ℕ) → digits ≡ take_while is_decimal rest → all is_decimal digits ≡ true
+all_digits digits rest d = rw d (digits_tested rest)
 
-pub ruleset id_steps = (no_id_key, ids_are, no_d, no_id_space, id_stands, id_after, all_leading)
+pub ruleset id_steps = (no_id_key, ids_are, no_d, no_id_space, id_stands, id_after, all_digits)
 
 -- the line
 module _ (l : List ℕ) where

@@ -1,6 +1,7 @@
 -- Document 01, "Batch lines and the reader's state": the input line, without its line feed, and the refusals 1 to 4.
 use Rattle.std.specs.Prelude.{ℕ, ◌+◌, ◌≤◌, ◌<◌, ◌^◌, ◌≡◌, Bool, not, ◌&&◌, ◌||◌, cond, List, [], ◌∷◌, ◌++◌, Result, Ok, Err, eqb, ltb, leb, length, take, drop, get_or}
-use Rattle.text.specs.Bytes.{begins, all, leading}
+use Rattle.std.specs.List.{starts_with, take_while}
+use Rattle.text.specs.Bytes.{all}
 use Rattle.text.specs.Digits.{decimal, hex, is_decimal, is_hex, value}
 use Rattle.lines.specs.declared.Pair.{Pair}
 use Rattle.lines.specs.declared.Refusal.{Refusal}
@@ -34,7 +35,7 @@ line_of d x y = id_key ++ decimal d ++ (space ∷ x_key) ++ hex x ++ (space ∷ 
 
 -- the digits that follow `id=`
 unfoldable pub id_digits : List ℕ → List ℕ
-id_digits l = leading is_decimal (drop (length id_key) l)
+id_digits l = take_while is_decimal (drop (length id_key) l)
 
 -- digits that are a D: "0 to 65535 in decimal without leading zeros"
 unfoldable pub is_d : List ℕ → Bool
@@ -42,7 +43,7 @@ is_d ds = ltb 0 (length ds) && (eqb (length ds) 1 || not (eqb (get_or ds 0 0) 48
 
 -- whether a line begins with "`id=`, D, a space"; and what follows these
 unfoldable pub has_id : List ℕ → Bool
-has_id l = begins id_key l && is_d (id_digits l) && eqb (get_or l (length id_key + length (id_digits l)) 0) space
+has_id l = starts_with eqb l id_key && is_d (id_digits l) && eqb (get_or l (length id_key + length (id_digits l)) 0) space
 
 unfoldable pub after_id : List ℕ → List ℕ
 after_id l = drop (length id_key + length (id_digits l) + 1) l
@@ -52,7 +53,7 @@ unfoldable pub hex_digits : List ℕ → List ℕ → List ℕ
 hex_digits key l = take 8 (drop (length key) l)
 
 unfoldable pub has_hex : List ℕ → List ℕ → Bool
-has_hex key l = begins key l && eqb (length (hex_digits key l)) 8 && all is_hex (hex_digits key l)
+has_hex key l = starts_with eqb l key && eqb (length (hex_digits key l)) 8 && all is_hex (hex_digits key l)
 
 -- whether what follows begins with "`x=`, H, a space"; and what follows these
 unfoldable pub has_x : List ℕ → Bool

@@ -1,7 +1,8 @@
 // Reading an input line. Each function reads what stands at the front of a text, and answers what
 // that says and what follows it.
 ghost use Rattle.std.specs.Prelude.{◌≡◌, true, ◌+◌, leb, length, drop};
-ghost use Rattle.text.specs.Bytes.{all, leading};
+ghost use Rattle.std.specs.List.{take_while};
+ghost use Rattle.text.specs.Bytes.{all};
 ghost use Rattle.text.specs.Digits.{is_decimal, value};
 ghost use Rattle.lines.specs.Fields.{Reads, said};
 ghost use Rattle.lines.specs.Format.{largest_id, x_key, y_key, id_digits, is_d, has_id, after_id, hex_digits, has_hex, has_x, after_x, has_y, read_line};
@@ -10,14 +11,12 @@ use crate::{LARGEST_ID, LONGEST, Pair, Refusal};
 use text::from_hex;
 
 // The decimal digits at the front, and what follows them.
+#[tactic(auto, using(std::proofs::lemmas::Grind::common_steps), unfolding(text::specs::Digits::is_decimal))]
 fn split_digits(line: &[u8]) -> (&[u8], &[u8])
-    ensures digits { result.0.now ≡ leading is_decimal line.now }
-    ensures rest { result.1.now ≡ drop (length (leading is_decimal line.now)) line.now }
+    ensures digits { result.0.now ≡ take_while is_decimal line.now }
+    ensures rest { result.1.now ≡ drop (length (take_while is_decimal line.now)) line.now }
 {
-    let end = line
-        .iter()
-        .position(|b| !b.is_ascii_digit())
-        .unwrap_or(line.len());
+    let end = line.iter().take_while(|b| b.is_ascii_digit()).count();
     line.split_at(end)
 }
 

@@ -1,24 +1,23 @@
 -- The tail that holds a line, and the line that a tail holds. Assumes nothing.
-use Prim.Native.Nat.{ℕ, ◌+◌, ◌≤◌, ◌<◌}
-use native.Mathlib.Omega.{arith}
-use mathlib.Core.Path.{◌≡◌, refl, sym, ap, ◌∙◌}
-use mathlib.Core.Bool.{Bool, true, false}
-use mathlib.Core.List.{List, ◌++◌}
-use lib.Dec.{leb, lit<}
+use Rattle.std.proofs.Common.{◌≡◌, ℕ, ◌+◌, ◌≤◌, ◌<◌, Bool, true, false, List, ◌++◌, length, take, drop, replicate, refl, sym, ap, ◌∙◌, lit<, arith, append_assoc, length-append}
+use lib.Dec.{leb}
 use borrow.Author.Tests.{le-leb, lt-leb, leb-true, leb-false, ne_eqb}
-use lib.ListN.{length, take, drop, length-append, length-drop}
-use lib.Seq.{take_at, drop-drop, drop-append-add}
-use Rattle.text.specs.Bytes.{put}
+use lib.Seq.{take_at, drop-drop, drop-append_seam}
+use borrow.Rule.Slice.PartMut.{put_mid}
 use Rattle.lines.specs.Format.{longest}
 use Rattle.state.specs.declared.Tail.{Tail}
-use Rattle.state.specs.Holding.{over_long, zeros, hold, carried, Sound}
+use Rattle.state.specs.Holding.{over_long, zeros, hold, carried, kept, Sound}
 
 -- the mark of an over-long line
 abbrev pub marked : Tail
 marked = record { bytes = zeros; count = over_long }
 
--- a line that is short enough is kept, and an over-long one is marked
-pub hold_short : (l : List ℕ) → length l ≤ longest → hold l ≡ record { bytes = l ++ drop (length l) zeros; count = length l }
+-- the tail of a line that is short enough
+abbrev pub stored : List ℕ → Tail
+stored l = record { bytes = l ++ drop (length l) zeros; count = length l }
+
+-- a line that is short enough is stored, and an over-long one is marked
+pub hold_short : (l : List ℕ) → length l ≤ longest → hold l ≡ stored l
 unfolding hold
 hold_short l h = rw (le-leb _ _ h)
 
@@ -33,107 +32,96 @@ carried_kept t h = rw (ne_eqb t.count over_long (omega arith))
 
 -- the bytes of a line that is kept come back
 pub carried_short : (l : List ℕ) → length l ≤ longest → carried (hold l) ≡ l
-carried_short l h =
-    ap carried (hold_short l h)
-    ∙ carried_kept (record { bytes = l ++ drop (length l) zeros; count = length l }) h
-    ∙ take_at l (drop (length l) zeros) (length l) refl
+carried_short l h = ap carried (hold_short l h) ∙ carried_kept (stored l) h ∙ take_at l (drop (length l) zeros) (length l) refl
 
 -- those of an over-long line come back as an over-long line
 pub carried_long : (l : List ℕ) → longest < length l → longest < length (carried (hold l))
 unfolding carried
 carried_long l h = rw (hold_long l h) (lit< tt)
 
+-- what is kept of an over-long line stands for it
+pub kept_long : (l : List ℕ) → longest < length l → kept l ≡ replicate over_long 0
+unfolding kept carried
+kept_long l h = rw (hold_long l h)
+
+pub kept_short : (l : List ℕ) → length l ≤ longest → kept l ≡ l
+unfolding kept
+kept_short l h = carried_short l h
+
+-- a line is short enough or over-long
+pub data Fits (l : List ℕ) : Type 0 where
+  short : length l ≤ longest → Fits l
+  long : longest < length l → Fits l
+
+pub fits : (l : List ℕ) → Fits l
+fits l = by (leb (length l) longest) refl
+  where
+    by : (t : Bool) → leb (length l) longest ≡ t → Fits l
+    by true h = short (leb-true _ _ h)
+    by false h = long (leb-false _ _ h)
+
+-- what is kept is held in the same tail, and kept as it is
+pub hold_kept : (l : List ℕ) → hold (kept l) ≡ hold l
+hold_kept l = by (fits l)
+  where
+    by : Fits l → hold (kept l) ≡ hold l
+    by (short h) = ap hold (kept_short l h)
+    by (long h) = ap hold (kept_long l h) ∙ hold_long (replicate over_long 0) (lit< tt) ∙ sym (hold_long l h)
+
+pub kept_kept : (l : List ℕ) → kept (kept l) ≡ kept l
+unfolding kept
+kept_kept l = ap carried (hold_kept l)
+
 -- the tail that holds a line is a sound one
 pub sound : (l : List ℕ) → Sound (hold l)
-sound l = by (leb (length l) longest) refl
+unfolding kept
+sound l = sym (hold_kept l)
+
+-- A sound tail and its line: a short one is stored, and the mark stands for an over-long one.
+pub data HeldIn (t : Tail) (l : List ℕ) : Type 0 where
+  is_stored : length l ≤ longest → t ≡ stored l → HeldIn t l
+  is_marked : l ≡ replicate over_long 0 → t ≡ marked → HeldIn t l
+
+pub held_in : (t : Tail) → Sound t → HeldIn t (carried t)
+unfolding kept
+held_in t s = by (fits (carried t))
   where
-    by : (t : Bool) → leb (length l) longest ≡ t → hold l ≡ hold (carried (hold l))
-    by true h = sym (ap hold (carried_short l (leb-true _ _ h)))
-    by false h = hold_long l (leb-false _ _ h) ∙ sym (hold_long (carried (hold l)) (carried_long l (leb-false _ _ h)))
+    by : Fits (carried t) → HeldIn t (carried t)
+    by (short h) = is_stored h (s ∙ hold_short (carried t) h)
+    by (long h) = is_marked (ap carried s ∙ kept_long (carried t) h) (s ∙ hold_long (carried t) h)
 
-pub sound_as : (t : Tail) (l : List ℕ) → t ≡ hold l → Sound t
-sound_as t l e = rw e (sound l)
-
--- of a sound tail with a count up to the longest line
-module _ (t : Tail) (s : Sound t) (h : t.count ≤ longest) where
-  -- the line that it holds is short
-  held_short : length (carried t) ≤ longest
-  held_short = by (leb (length (carried t)) longest) refl
-    where
-      by : (b : Bool) → leb (length (carried t)) longest ≡ b → length (carried t) ≤ longest
-      by true e = leb-true _ _ e
-      by false e = let c : t.count ≡ over_long = ap (λ (k : Tail). k.count) (s ∙ hold_long (carried t) (leb-false _ _ e)) in absurd (omega arith)
-
-  -- the count is the length of the line that it holds
-  pub held_count : t.count ≡ length (carried t)
-  held_count = ap (λ (k : Tail). k.count) (s ∙ hold_short (carried t) held_short)
-
-  -- its places are that line and zeros
-  pub held_bytes : t.bytes ≡ carried t ++ drop (length (carried t)) zeros
-  held_bytes = ap (λ (k : Tail). k.bytes) (s ∙ hold_short (carried t) held_short)
-
-  -- as many of its places as the count says are that line
-  pub held_taken : take t.count t.bytes ≡ carried t
-  held_taken = ap (take t.count) held_bytes ∙ take_at (carried t) (drop (length (carried t)) zeros) t.count (sym held_count)
-
-  -- it has as many places as the longest line has bytes
-  pub held_places : length t.bytes ≡ longest
-  held_places =
-      ap length held_bytes
-      ∙ length-append (carried t) (drop (length (carried t)) zeros)
-      ∙ ap (λ (k : ℕ). length (carried t) + k) (length-drop (length (carried t)) zeros)
-      ∙ (let h : length (carried t) ≤ longest = held_short in omega arith)
-
--- a sound tail with a larger count holds an over-long line
-pub held_long : (t : Tail) → Sound t → longest < t.count → longest < length (carried t)
-held_long t s h = by (leb (length (carried t)) longest) refl
-  where
-    by : (b : Bool) → leb (length (carried t)) longest ≡ b → longest < length (carried t)
-    by true e =
-        let c : t.count ≡ length (carried t) = ap (λ (k : Tail). k.count) (s ∙ hold_short (carried t) (leb-true _ _ e)) in
-        let g : length (carried t) ≤ longest = leb-true _ _ e in
-        absurd (omega arith)
-    by false e = leb-false _ _ e
-
--- the count is the length of the line that a sound tail holds, or of what stands for it
+-- the count is the length of the line
 pub held_length : (t : Tail) → Sound t → t.count ≡ length (carried t)
-unfolding carried
-held_length t s = by (leb t.count longest) refl
+held_length t s = by (held_in t s)
   where
-    by : (b : Bool) → leb t.count longest ≡ b → t.count ≡ length (carried t)
-    by true e = held_count t s (leb-true _ _ e)
-    by false e = rw (s ∙ hold_long (carried t) (held_long t s (leb-false _ _ e))) refl
+    by : HeldIn t (carried t) → t.count ≡ length (carried t)
+    by (is_stored h e) = ap (λ (k : Tail). k.count) e
+    by (is_marked h e) = ap (λ (k : Tail). k.count) e ∙ ap length (sym h)
 
--- a part more of the line that a sound tail holds
-module _ (t : Tail) (s : Sound t) (part : List ℕ) where
-  -- an over-long line stays one
-  pub more_long : longest < t.count → t ≡ hold (carried t ++ part)
-  more_long h =
-      let g : longest < length (carried t) = held_long t s h in
-      s ∙ hold_long (carried t) g ∙ sym (hold_long (carried t ++ part) (let e : length (carried t ++ part) ≡ length (carried t) + length part = length-append (carried t) part in omega arith))
+-- a short line with a part more that stays short
+longer : (l part : List ℕ) → length l + length part ≤ longest
+    → record { bytes = put_mid (length l) (length part) (l ++ drop (length l) zeros) part; count = length l + length part } ≡ hold (l ++ part)
+longer l part h =
+    let z : List ℕ = drop (length l) zeros in
+    ap (λ (b : List ℕ). record { bytes = b ++ (part ++ drop (length part) (drop (length l) (l ++ z))); count = length l + length part }) (take_at l z (length l) refl)
+    ∙ ap (λ (b : List ℕ). record { bytes = l ++ (part ++ drop (length part) b); count = length l + length part }) (drop-append_seam l z)
+    ∙ ap (λ (b : List ℕ). record { bytes = b; count = length l + length part }) (sym (append_assoc l part (drop (length part) z)) ∙ ap (λ (b : List ℕ). l ++ part ++ b) (drop-drop (length part) (length l) zeros))
+    ∙ ap (λ (n : ℕ). record { bytes = l ++ part ++ drop n zeros; count = n }) (sym (length-append l part))
+    ∙ sym (hold_short (l ++ part) (omega (arith, length-append l part)))
 
-  module _ (h : t.count ≤ longest) where
-    total_length : length (carried t ++ part) ≡ t.count + length part
-    total_length = length-append (carried t) part ∙ ap (λ (k : ℕ). k + length part) (sym (held_count t s h))
+-- a sound tail with a part put after its line
+pub extended : (t : Tail) → Sound t → (part new : List ℕ) (k : ℕ) → t.count + length part ≤ longest → k ≡ length part → new ≡ part
+    → record { bytes = put_mid t.count k t.bytes new; count = t.count + length part } ≡ hold (carried t ++ part)
+extended t s part new k h e f = by (held_in t s)
+  where
+    by : HeldIn t (carried t) → record { bytes = put_mid t.count k t.bytes new; count = t.count + length part } ≡ hold (carried t ++ part)
+    by (is_stored g i) =
+        let n : t.count ≡ length (carried t) = ap (λ (k : Tail). k.count) i in
+        let b : t.bytes ≡ carried t ++ drop (length (carried t)) zeros = ap (λ (k : Tail). k.bytes) i in
+        let r : record { bytes = put_mid (length (carried t)) (length part) (carried t ++ drop (length (carried t)) zeros) part; count = length (carried t) + length part } ≡ hold (carried t ++ part) = longer (carried t) part (omega arith) in
+        cc
+    by (is_marked g i) = absurd (let n : t.count ≡ over_long = ap (λ (k : Tail). k.count) i in omega arith)
 
-    -- a line becomes over-long
-    pub more_over : longest < t.count + length part → marked ≡ hold (carried t ++ part)
-    more_over g = sym (hold_long (carried t ++ part) (let e : length (carried t ++ part) ≡ t.count + length part = total_length in omega arith))
-
-    -- a line that stays short has the part at its end
-    pub more_short : t.count + length part ≤ longest → record { bytes = put t.bytes t.count part; count = t.count + length part } ≡ hold (carried t ++ part)
-    unfolding put
-    more_short g =
-        let c : t.count ≡ length (carried t) = held_count t s h in
-        let b : t.bytes ≡ carried t ++ drop t.count zeros = held_bytes t s h ∙ ap (λ (k : ℕ). carried t ++ drop k zeros) (sym c) in
-        let front : take t.count t.bytes ≡ carried t = held_taken t s h in
-        let back : drop (t.count + length part) t.bytes ≡ drop (t.count + length part) zeros =
-        ap (drop (t.count + length part)) b
-        ∙ ap (λ (k : ℕ). drop (k + length part) (carried t ++ drop t.count zeros)) c
-        ∙ drop-append-add (carried t) (drop t.count zeros) (length part)
-        ∙ drop-drop (length part) t.count zeros in
-        sym
-        (hold_short (carried t ++ part) (let e : length (carried t ++ part) ≡ t.count + length part = total_length in omega arith)
-        ∙ ap (λ (k : ℕ). record { bytes = carried t ++ part ++ drop k zeros; count = k }) total_length
-        ∙ ap (λ (k : List ℕ). record { bytes = k ++ part ++ drop (t.count + length part) zeros; count = t.count + length part }) (sym front)
-        ∙ ap (λ (k : List ℕ). record { bytes = take t.count t.bytes ++ part ++ k; count = t.count + length part }) (sym back))
+-- or one that has no room for it
+pub over : (t : Tail) → Sound t → (part : List ℕ) → longest < t.count + length part → longest < length (carried t ++ part)
+over t s part h = let n : t.count ≡ length (carried t) = held_length t s in omega (arith, length-append (carried t) part)

@@ -1,4 +1,3 @@
 -- The laws of `state`.
-pub mod CarriedOn
 pub mod Holds
 pub mod Unbroken

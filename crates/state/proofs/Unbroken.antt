@@ -1,177 +1,127 @@
 -- A state that is not broken: its tail holds a line, and its tallies add up. And a state that holds a line and counts is not broken. Assumes nothing.
-use Prim.Native.Nat.{ℕ, zero, suc, ◌+◌, ◌-◌, ◌≤◌, ◌<◌}
-use native.Mathlib.Nat.{zero-add, sub-zero, zero-sub, suc-sub-suc}
-use native.Mathlib.Omega.{arith}
-use mathlib.Core.Path.{◌≡◌, refl, sym, ap, ◌∙◌}
-use mathlib.Core.Bool.{Bool, true, false, not, ◌||◌, cond}
-use mathlib.Core.List.{List, [], ◌∷◌, ◌++◌}
-use lib.Dec.{eqb, ltb, leb, lit<}
-use borrow.Author.Tests.{leb-true, leb-false, ltb-false, le-ltb, eq-eqb, ne_eqb, eqb-true, not-false}
-use lib.ListN.{length, take, drop, replicate, length-drop, take-append-drop}
+use Rattle.std.proofs.Common.{◌≡◌, ℕ, zero, suc, ◌+◌, ◌-◌, ◌≤◌, ◌<◌, Bool, true, false, cond, List, [], ◌∷◌, ◌++◌, length, take, drop, replicate, eqb, refl, sym, ap, ◌∙◌, arith, length-drop, zero-add, mul-zero, take-append-drop}
+use Rattle.std.proofs.lemmas.List.{drop-replicate}
+use Rattle.std.proofs.lemmas.List.Folds.{sum_by-replicate}
+use Rattle.std.specs.List.{list_all}
+use Rattle.std.proofs.lemmas.Bool.Decides.{nat_tests}
+use borrow.Author.Tests.{leb-true, leb-false, eq-eqb, ne_eqb}
+use lib.Dec.{leb}
 use lib.Seq.{length-take-le, drop-append_seam}
-use Rattle.text.specs.Bytes.{all}
 use Rattle.lines.specs.Format.{longest}
 use Rattle.state.specs.declared.Tail.{Tail}
 use Rattle.state.specs.declared.State.{State}
-use Rattle.scan.specs.Complete.{feeds}
+use Rattle.scan.specs.Complete.{line_feed, feeds}
 use Rattle.state.specs.Tally.{total}
 use Rattle.state.specs.Holding.{over_long, zeros, hold, carried, Sound, unused, broken}
 use Rattle.scan.proofs.Cutting.{feeds_append}
-use Rattle.state.proofs.Holds.{marked, hold_short, hold_long, carried_kept}
-
--- true is not false
-contra : true ≡ false → ⊥
-contra e = let z : ◌≡◌ {A = ℕ} 0 1 = cc in omega arith
-
--- four tests of which none holds
-record None (a b c d : Bool) : Type 0 where
-  pub first : a ≡ false
-  pub second : b ≡ false
-  pub third : c ≡ false
-  pub fourth : d ≡ false
-
-none_of : (a b c d : Bool) → (a || b || c || d) ≡ false → None a b c d
-none_of true b c d h = absurd (contra h)
-none_of false true c d h = absurd (contra h)
-none_of false false true d h = absurd (contra h)
-none_of false false false true h = absurd (contra h)
-none_of false false false false h = record { first = refl; second = refl; third = refl; fourth = refl }
+use Rattle.state.proofs.Holds.{Fits, short, long, fits, hold_short, hold_long, carried_kept}
 
 -- a list of zeros
-all_zeros : (l : List ℕ) → all (λ b. eqb b 0) l ≡ true → l ≡ replicate (length l) 0
-unfolding all
-all_zeros [] h = refl
-all_zeros (b ∷ l) h = by (eqb b 0) refl (all_zeros l)
-  where
-    by : (t : Bool) → eqb b 0 ≡ t → (all (λ k. eqb k 0) l ≡ true → l ≡ replicate (length l) 0) → b ∷ l ≡ 0 ∷ replicate (length l) 0
-    by true e less = ap (λ (k : ℕ). k ∷ l) (eqb-true b 0 e) ∙ ap (λ (k : List ℕ). 0 ∷ k) (less (rw e at h))
-    by false e less = absurd (contra (sym (rw e at h)))
+abbrev zero_all : List ℕ → Bool
+zero_all l = list_all (λ b. eqb b 0) l
 
-drop_zeros : (n m : ℕ) → drop {A = ℕ} n (replicate m 0) ≡ replicate (m - n) 0
-drop_zeros zero m = rw sub-zero
-drop_zeros (suc n) zero = rw zero-sub
-drop_zeros (suc n) (suc m) = rw suc-sub-suc (drop_zeros n m)
+all_zeros : (l : List ℕ) → zero_all l ≡ true → l ≡ replicate (length l) 0
+all_zeros [] h = refl
+all_zeros (b ∷ l) h = let r = all_zeros l in grind (arith, nat_tests, r)
+
+zeros_all : (n : ℕ) → zero_all (replicate n 0) ≡ true
+zeros_all zero = refl
+zeros_all (suc n) = zeros_all n
+
+feeds_zeros : (n : ℕ) → feeds (replicate n 0) ≡ 0
+unfolding feeds
+feeds_zeros n = sum_by-replicate (λ b. cond (eqb b line_feed) 1 0) n 0 ∙ mul-zero n
+
+-- a tail, by its two fields
+tail_is : (t : Tail) (b : List ℕ) (n : ℕ) → t.bytes ≡ b → t.count ≡ n → t ≡ record { bytes = b; count = n }
+tail_is t b n e f = ap (λ (k : List ℕ). record { bytes = k; count = t.count }) e ∙ ap (λ (k : ℕ). record { bytes = b; count = k }) f
 
 -- of a state that is not broken
 module _ (s : State) (h : broken s ≡ false) where
-  -- the four causes are none
-  tests : None (ltb over_long s.tail.count) (ltb 0 (feeds s.tail.bytes)) (not (all (λ b. eqb b 0) (drop (unused s.tail) s.tail.bytes))) (not (eqb (total s.tallies) s.lines))
-  unfolding broken
-  tests = none_of _ _ _ _ h
-
   -- the tallies add up
   pub adds_up : total s.tallies ≡ s.lines
-  adds_up = eqb-true _ _ (not-false _ tests.fourth)
+  unfolding broken
+  adds_up = grind (arith, nat_tests)
 
   -- the count is at most the mark
   pub count_most : s.tail.count ≤ over_long
-  count_most = ltb-false _ _ tests.first
+  unfolding broken
+  count_most = grind (arith, nat_tests)
 
   -- there is no line feed in the tail
   no_feeds : feeds s.tail.bytes ≡ 0
-  no_feeds = let f : feeds s.tail.bytes ≤ 0 = ltb-false _ _ tests.second in omega arith
+  unfolding broken
+  no_feeds = grind (arith, nat_tests)
 
-  unused_zero : all (λ b. eqb b 0) (drop (unused s.tail) s.tail.bytes) ≡ true
-  unused_zero = not-false _ tests.third
+  unused_zero : zero_all (drop (unused s.tail) s.tail.bytes) ≡ true
+  unfolding broken
+  unused_zero = grind (arith, nat_tests)
 
   -- whose tail has its places
   module _ (places : length s.tail.bytes ≡ longest) where
     -- an over-long line is marked
     is_marked : s.tail.count ≡ over_long → Sound s.tail
-    unfolding unused carried
+    unfolding unused carried hold
     is_marked e =
         let z : s.tail.bytes ≡ zeros = all_zeros s.tail.bytes (rw (eq-eqb s.tail.count over_long e) at unused_zero) ∙ ap (λ (k : ℕ). replicate k 0) places in
-        let m : s.tail ≡ marked = ap (λ (k : List ℕ). record { bytes = k; count = s.tail.count }) z ∙ ap (λ (k : ℕ). record { bytes = zeros; count = k }) e in
-        rw m (sym (hold_long (carried marked) (lit< tt)))
+        rw (tail_is s.tail zeros over_long z e)
 
-    -- another is kept
-    is_kept : s.tail.count ≤ longest → Sound s.tail
+    -- another is stored
+    is_stored : s.tail.count ≤ longest → Sound s.tail
     unfolding unused
-    is_kept g =
+    is_stored g =
         let n : ℕ = s.tail.count in
         let b : List ℕ = s.tail.bytes in
         let c : carried s.tail ≡ take n b = carried_kept s.tail g in
         let l : length (carried s.tail) ≡ n = ap length c ∙ length-take-le n b (omega arith) in
         let z : drop n b ≡ drop n zeros =
-        all_zeros (drop n b) (rw (ne_eqb n over_long (omega arith)) at unused_zero) ∙ ap (λ (k : ℕ). replicate k 0) (length-drop n b ∙ ap (λ (k : ℕ). k - n) places) ∙ sym (drop_zeros n longest) in
-        sym
-        (hold_short (carried s.tail) (omega arith)
-        ∙ ap (λ (k : ℕ). record { bytes = carried s.tail ++ drop k zeros; count = k }) l
-        ∙ ap (λ (k : List ℕ). record { bytes = k ++ drop n zeros; count = n }) c
-        ∙ ap (λ (k : List ℕ). record { bytes = take n b ++ k; count = n }) (sym z)
-        ∙ ap (λ (k : List ℕ). record { bytes = k; count = n }) (take-append-drop n b))
+        all_zeros (drop n b) (rw (ne_eqb n over_long (omega arith)) at unused_zero) ∙ ap (λ (k : ℕ). replicate k 0) (length-drop n b ∙ ap (λ (k : ℕ). k - n) places) ∙ sym (drop-replicate n longest 0) in
+        let p : b ≡ carried s.tail ++ drop (length (carried s.tail)) zeros = sym (take-append-drop n b) ∙ ap (λ (k : List ℕ). take n b ++ k) z ∙ ap (λ (k : ℕ). take n b ++ drop k zeros) (sym l) ∙ ap (λ (k : List ℕ). k ++ drop (length (carried s.tail)) zeros) (sym c) in
+        tail_is s.tail _ _ p (sym l) ∙ sym (hold_short (carried s.tail) (omega arith))
 
     -- so the tail holds a line
     pub tail_sound : Sound s.tail
     tail_sound = by (leb s.tail.count longest) refl
       where
         by : (t : Bool) → leb s.tail.count longest ≡ t → Sound s.tail
-        by true e = is_kept (leb-true _ _ e)
-        by false e =
-            let f : longest < s.tail.count = leb-false _ _ e in
-            let m : s.tail.count ≤ over_long = count_most in
-            is_marked (omega arith)
-
--- zeros are no line feeds, and zeros
-feeds_zeros : (n : ℕ) → feeds (replicate n 0) ≡ 0
-unfolding feeds
-feeds_zeros zero = refl
-feeds_zeros (suc n) = feeds_zeros n
-
-zeros_all : (n : ℕ) → all (λ b. eqb b 0) (replicate n 0) ≡ true
-unfolding all
-zeros_all zero = refl
-zeros_all (suc n) = zeros_all n
+        by true e = is_stored (leb-true _ _ e)
+        by false e = is_marked (let f : longest < s.tail.count = leb-false _ _ e in let m : s.tail.count ≤ over_long = count_most in omega arith)
 
 -- what cause 5 asks of a tail
 record Passes (t : Tail) : Type 0 where
   pub count_most : t.count ≤ over_long
   pub no_feed : feeds t.bytes ≡ 0
-  pub rest_zero : all (λ b. eqb b 0) (drop (unused t) t.bytes) ≡ true
-
--- a count up to the longest line is where zeros begin, and the mark passes
-unused_short : (b : List ℕ) (n : ℕ) → n ≤ longest → unused (record { bytes = b; count = n }) ≡ n
-unfolding unused
-unused_short b n h = rw (ne_eqb n over_long (omega arith))
-
-marked_passes : Passes marked
-unfolding feeds all unused
-marked_passes = record { count_most = omega arith; no_feed = refl; rest_zero = refl }
+  pub rest_zero : zero_all (drop (unused t) t.bytes) ≡ true
 
 -- the tail that holds a line passes
 passes : (l : List ℕ) → feeds l ≡ 0 → Passes (hold l)
-passes l f = by (leb (length l) longest) refl
+unfolding unused
+passes l f = by (fits l)
   where
-    short : length l ≤ longest → Passes (record { bytes = l ++ drop (length l) zeros; count = length l })
-    short h =
-        record {
+    by : Fits l → Passes (hold l)
+    by (short h) =
+        rw (hold_short l h)
+        (record {
           count_most = omega arith;
-          no_feed = feeds_append l (drop (length l) zeros) ∙ rw (f, zero-add, drop_zeros (length l) longest) (feeds_zeros (longest - length l));
-          rest_zero = rw (unused_short (l ++ drop (length l) zeros) (length l) h, drop-append_seam l (drop (length l) zeros), drop_zeros (length l) longest) (zeros_all (longest - length l));
-        }
-
-    by : (t : Bool) → leb (length l) longest ≡ t → Passes (hold l)
-    by true e = rw (hold_short l (leb-true _ _ e)) (short (leb-true _ _ e))
-    by false e = rw (hold_long l (leb-false _ _ e)) marked_passes
+          no_feed = feeds_append l (drop (length l) zeros) ∙ rw (f, zero-add, drop-replicate {X = ℕ} (length l) longest 0) (feeds_zeros (longest - length l));
+          rest_zero = rw (ne_eqb (length l) over_long (omega arith), drop-append_seam l (drop (length l) zeros), drop-replicate {X = ℕ} (length l) longest 0) (zeros_all (longest - length l));
+        })
+    by (long h) = rw (hold_long l h) (record { count_most = omega arith; no_feed = feeds_zeros longest; rest_zero = zeros_all longest })
 
 -- a state that holds a line, and whose tallies add up, is not broken
 pub unbroken : (s : State) (l : List ℕ) → s.tail ≡ hold l → feeds l ≡ 0 → total s.tallies ≡ s.lines → broken s ≡ false
 unfolding broken
-unbroken s l e f t =
-    let p : Passes s.tail = rw e (passes l f) in
-    let z : feeds s.tail.bytes ≡ 0 = p.no_feed in
-    rw (le-ltb over_long s.tail.count p.count_most, le-ltb 0 (feeds s.tail.bytes) (omega arith), p.rest_zero, eq-eqb _ _ t)
+unbroken s l e f t = let p : Passes s.tail = rw e (passes l f) in grind (arith, nat_tests, p.count_most, p.no_feed, p.rest_zero)
 
 -- a state that is not broken carries no line feed
 pub carried_feeds : (s : State) → broken s ≡ false → feeds (carried s.tail) ≡ 0
 unfolding carried
 carried_feeds s h = by (eqb s.tail.count over_long)
   where
-    some : (a b c : ℕ) → a ≡ b + c → a ≡ 0 → b ≡ 0
-    some a b c e f = omega arith
-
     by : (t : Bool) → feeds (cond t (replicate over_long 0) (take s.tail.count s.tail.bytes)) ≡ 0
     by true = feeds_zeros over_long
     by false =
-        some _ _ _ (ap feeds (sym (take-append-drop s.tail.count s.tail.bytes)) ∙ feeds_append (take s.tail.count s.tail.bytes) (drop s.tail.count s.tail.bytes))
-        (no_feeds s h)
+        let z : feeds s.tail.bytes ≡ 0 = no_feeds s h in
+        let d : feeds (take s.tail.count s.tail.bytes ++ drop s.tail.count s.tail.bytes) ≡ feeds s.tail.bytes = ap feeds (take-append-drop s.tail.count s.tail.bytes) in
+        let a : feeds (take s.tail.count s.tail.bytes ++ drop s.tail.count s.tail.bytes) ≡ feeds (take s.tail.count s.tail.bytes) + feeds (drop s.tail.count s.tail.bytes) = feeds_append (take s.tail.count s.tail.bytes) (drop s.tail.count s.tail.bytes) in
+        omega arith

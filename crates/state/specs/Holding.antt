@@ -1,7 +1,7 @@
 -- Document 01: "The state holds: 30 bytes of tail, its count (31 marks an over-long line, and then all 30 are zero), the lines so far, and six tallies". And the
 -- row of cause 5: which states are broken.
 use Rattle.std.specs.Prelude.{ℕ, ◌+◌, ◌≡◌, Bool, not, ◌||◌, cond, List, ◌++◌, eqb, ltb, leb, length, take, drop, replicate}
-use Rattle.text.specs.Bytes.{all}
+use Rattle.std.specs.List.{list_all}
 use Rattle.lines.specs.Format.{longest}
 use Rattle.scan.specs.Complete.{feeds}
 use Rattle.state.specs.Tally.{none, total}
@@ -27,6 +27,10 @@ hold t =
 unfoldable pub carried : Tail → List ℕ
 carried t = cond (eqb t.count over_long) (replicate over_long 0) (take t.count t.bytes)
 
+-- a line as a tail holds it: itself, or what stands for it if it is over-long
+unfoldable pub kept : List ℕ → List ℕ
+kept l = carried (hold l)
+
 -- a tail that holds a line
 abbrev pub Sound : Tail → Type 0
 Sound t = t ≡ hold (carried t)
@@ -42,4 +46,4 @@ unused t = cond (eqb t.count over_long) 0 t.count
 -- "tail count over 31, byte 10 in the tail, a place past the count (or any place, at 31) not zero, or tallies not adding up to lines"
 unfoldable pub broken : State → Bool
 broken s =
-    ltb over_long s.tail.count || ltb 0 (feeds s.tail.bytes) || not (all (λ b. eqb b 0) (drop (unused s.tail) s.tail.bytes)) || not (eqb (total s.tallies) s.lines)
+    ltb over_long s.tail.count || ltb 0 (feeds s.tail.bytes) || not (list_all (λ b. eqb b 0) (drop (unused s.tail) s.tail.bytes)) || not (eqb (total s.tallies) s.lines)

@@ -1,39 +1,99 @@
-// The tail: the unfinished line.
-ghost use Rattle.std.specs.Prelude.{◌≡◌, ◌++◌};
-ghost use Rattle.state.specs.Holding.{hold, carried, Sound, zeros};
+// The unfinished line, held in a tail.
+ghost use Rattle.std.specs.Prelude.{◌≡◌, ◌<◌, ◌≤◌, [], ◌++◌, length, MatchOption};
+ghost use Rattle.lines.specs.Format.{longest};
+ghost use Rattle.state.specs.Holding.{hold, carried, kept, Sound};
 
 use crate::{OVER_LONG, Tail};
 use lines::LONGEST;
+use std::marker::Model;
 
-// The tail that holds nothing.
-pub fn empty() -> Tail
-    ensures { result ≡ record { bytes = zeros; count = 0 } }
-{
-    Tail {
-        bytes: [0; LONGEST],
-        count: 0,
+// A tail that holds a line. In a clause it is that line, or what stands for an over-long one.
+#[derive(Clone, Copy)]
+pub struct Held {
+    tail: Tail,
+}
+
+impl Model for Held {
+    ghost use Rattle.std.specs.Prelude.{ℕ, List};
+    ghost use Rattle.std.proofs.Common.{sym, ap};
+    ghost use Rattle.state.specs.Holding.{hold, carried, Sound};
+
+    ghost Value = { List ℕ };
+
+    ghost view = { λ h. carried h.tail };
+
+    ghost invariant = { λ h. Sound h.tail };
+
+    ghost inverse = { λ l. record { tail = hold l } };
+
+    ghost inverse_ok = { λ h s. ap (λ t. record { tail = t }) (sym s) };
+}
+
+impl Held {
+    // The line that a tail holds.
+    pub(crate) fn of(tail: Tail) -> Held
+        requires { Sound tail }
+        ensures { result ≡ carried tail }
+    {
+        Held { tail }
+    }
+
+    // No bytes.
+    pub fn empty() -> Held
+        ensures { result ≡ [] }
+    {
+        Held {
+            tail: Tail {
+                bytes: [0; LONGEST],
+                count: 0,
+            },
+        }
+    }
+
+    // The same line with a part more.
+    pub fn extended(self, part: &[u8]) -> Held
+        ensures { result ≡ kept (self ++ part.now) }
+    {
+        let Tail { mut bytes, count } = self.tail;
+        let start = count as usize;
+        let end = start + part.len();
+        if end > LONGEST {
+            return Held {
+                tail: Tail {
+                    bytes: [0; LONGEST],
+                    count: OVER_LONG,
+                },
+            };
+        }
+        bytes[start..end].copy_from_slice(part);
+        Held {
+            tail: Tail {
+                bytes,
+                count: end as u32,
+            },
+        }
+    }
+
+    // Its bytes, and none where it is over-long.
+    pub fn line(&self) -> Option<&[u8]>
+        ensures { MatchOption result (longest < length self.now) (λ line. (line.now ≡ self.now) × (length self.now ≤ longest)) }
+    {
+        let tail = &self.tail;
+        tail.bytes.get(..tail.count as usize)
+    }
+
+    // How many bytes it has, or one more than the longest line.
+    pub fn len(&self) -> usize
+        ensures { result ≡ length self.now }
+    {
+        self.tail.count as usize
     }
 }
 
-// The tail that holds the same line with a part more.
-pub(crate) fn extended(tail: Tail, part: &[u8]) -> Tail
-    requires { Sound tail }
-    ensures { result ≡ hold (carried tail ++ part.now) }
-{
-    let count = tail.count as usize;
-    if count > LONGEST {
-        return tail;
-    }
-    if part.len() > LONGEST - count {
-        return Tail {
-            bytes: [0; LONGEST],
-            count: OVER_LONG,
-        };
-    }
-    let mut bytes = tail.bytes;
-    let length = text::put_bytes(part, &mut bytes, count);
-    Tail {
-        bytes,
-        count: length as u32,
+impl From<Held> for Tail {
+    ghost from_gives = { λ held tail. tail ≡ hold held };
+
+    fn from(held: Held) -> Tail {
+        held.tail
     }
 }

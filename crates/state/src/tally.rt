@@ -1,12 +1,20 @@
 // The tallies.
 ghost use Rattle.std.specs.Prelude.{◌≡◌};
-ghost use Rattle.state.specs.Tally.{total as Tally·total};
+ghost use Rattle.state.specs.Tally.{total};
 
 use crate::Tallies;
 
-// What the six add up to.
-pub fn total(t: Tallies) -> u64
-    ensures { result ≡ Tally·total t }
-{
-    t.rule as u64 + t.whole as u64 + t.edge as u64 + t.fast as u64 + t.slow as u64 + t.bad as u64
+impl Tallies {
+    // What the six add up to.
+    #[tactic(auto, unfolding(crate::specs::Tally::total))]
+    pub fn total(self) -> u64
+        ensures { result ≡ total self }
+    {
+        u64::from(self.rule)
+            + u64::from(self.whole)
+            + u64::from(self.edge)
+            + u64::from(self.fast)
+            + u64::from(self.slow)
+            + u64::from(self.bad)
+    }
 }

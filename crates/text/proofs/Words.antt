@@ -5,49 +5,22 @@ use mathlib.Core.Logic.{⊎_elim}
 use mathlib.Core.List.{List, [], ◌∷◌, map}
 use Prim.Native.Nat.{ℕ, zero, suc, ◌+◌, ◌*◌, ◌/◌, ◌%◌, ◌^◌, ◌≤◌, ◌<◌}
 use native.Mathlib.Omega.{arith}
-use native.Mathlib.Nat.{add-zero, add_comm, mul-div_cancel, mul-add-mod_self_right, mod-eq_of_lt, zero-lt-suc}
+use native.Mathlib.Nat.{add_comm, mul-div_cancel, mul-add-mod_self_right, mod-eq_of_lt, zero-lt-suc}
 use mir.Syntax.{w64}
 use lib.Bits.{bit_and, and_block, and_mask, and_high}
-use lib.Dec.{lit<, lit≤}
-use lib.ListN.{length, get_or, take, drop, replicate, length-drop, drop_of_length-le}
-use lib.Seq.{drop-cons, drop-drop}
+use lib.Dec.{lit<}
+use lib.ListN.{length, get_or, drop, replicate, drop_of_length-le}
+use lib.Seq.{drop-cons}
 use Rattle.std.specs.Int.{from_le_bytes}
 use Rattle.text.specs.Bytes.{all}
-use Rattle.text.specs.Digits.{is_hex, digit_value, value, value_from, lowest_first}
-use Rattle.text.proofs.Part.{ahead, passed}
+use Rattle.text.specs.Digits.{is_hex, digit_value, value, value_from}
 use Rattle.text.proofs.Numerals.{both, Between, is_hex_lem, low_value, high_value, sixteen}
 
 -- ---- bytes read as one number
--- the four bytes at a place
-module _ (l : List ℕ) (from : ℕ) (enough : from + 4 ≤ length l) where
-  four_listed : take 4 (drop from l) ≡ get_or l from 0 ∷ get_or l (from + 1) 0 ∷ get_or l (from + 2) 0 ∷ get_or l (from + 3) 0 ∷ []
-  four_listed =
-      ahead l from 4 enough 0 (lit< tt)
-      ∙ ap₂ (λ (x : ℕ) (t : List ℕ). x ∷ t) (ap (λ (i : ℕ). get_or l i 0) (add-zero from))
-      (ahead l from 4 enough 1 (lit< tt)
-      ∙ ap (λ (t : List ℕ). get_or l (from + 1) 0 ∷ t)
-      (ahead l from 4 enough 2 (lit< tt)
-      ∙ ap (λ (t : List ℕ). get_or l (from + 2) 0 ∷ t) (ahead l from 4 enough 3 (lit< tt) ∙ ap (λ (t : List ℕ). get_or l (from + 3) 0 ∷ t) (passed l from 4 enough 4 (lit≤ tt)))))
-
-  pub four_bytes : (a b c d : ℕ) → a ≡ get_or l from 0 → b ≡ get_or l (from + 1) 0 → c ≡ get_or l (from + 2) 0 → d ≡ get_or l (from + 3) 0
-      → a + b * 256 + c * 65536 + d * 16777216 ≡ lowest_first 256 (take 4 (drop from l))
-  unfolding lowest_first
-  four_bytes a b c d i j k m = rw four_listed (omega (arith, i, j, k, m))
-
--- four bytes, and four after them
-twice_four : (l : List ℕ) → 4 ≤ length l → lowest_first 256 (take 4 l) + lowest_first 256 (take 4 (drop 4 l)) * 0x100000000 ≡ lowest_first 256 (take 8 l)
-unfolding lowest_first
-twice_four [] h = absurd (omega arith)
-twice_four (a ∷ []) h = absurd (omega arith)
-twice_four (a ∷ b ∷ []) h = absurd (omega arith)
-twice_four (a ∷ b ∷ c ∷ []) h = absurd (omega arith)
-twice_four (a ∷ b ∷ c ∷ d ∷ l) h = omega arith
-
-pub eight_bytes : (l : List ℕ) (from r s : ℕ) → from + 8 ≤ length l → r ≡ lowest_first 256 (take 4 (drop from l)) → s ≡ lowest_first 256 (take 4 (drop (from + 4) l))
-    → r + s * 0x100000000 ≡ lowest_first 256 (take 8 (drop from l))
-eight_bytes l from r s h e f =
-    ap₂ (λ (x y : ℕ). x + y * 0x100000000) e (f ∙ ap (λ (k : List ℕ). lowest_first 256 (take 4 k)) (sym (drop-drop 4 from l)))
-    ∙ twice_four (drop from l) (omega (arith, h, length-drop from l))
+-- the number of digits in a base, the lowest first
+lowest_first : ℕ → List ℕ → ℕ
+lowest_first base [] = 0
+lowest_first base (b ∷ l) = lowest_first base l * base + b
 
 -- each element is below a bound
 abbrev Below : ℕ → List ℕ → Type 0
@@ -201,11 +174,6 @@ itemized : (l : List ℕ) (n i : ℕ) → i + n ≡ length l → drop i l ≡ it
 itemized l zero i e = drop_of_length-le l {i = i} (omega arith)
 itemized l (suc n) i e = drop-cons l i 0 (omega arith) ∙ ap (λ (t : List ℕ). get_or l i 0 ∷ t) (itemized l n (suc i) (omega arith))
 
--- eight bytes, as the library reads them
-pub read_le : (l : List ℕ) → length l ≡ 8 → from_le_bytes w64 l ≡ lowest_first 256 l
-unfolding lowest_first
-read_le l e = let t : from_le_bytes w64 l ≡ lowest_first 256 (items l 0 8) = omega arith in t ∙ ap (lowest_first 256) (sym (itemized l 8 0 (omega (arith, e))))
-
 values_small : (l : List ℕ) → all is_hex l ≡ true → Below 16 (map digit_value l)
 unfolding all
 values_small [] h = tt
@@ -242,15 +210,19 @@ unfolding value value_from
 said a b c d e f g h = ordered _ _ _ _ _ _ _ _
 
 -- the word of eight hexadecimal digits
-module _ (w : ℕ) (l : List ℕ) (e : w ≡ lowest_first 256 l) (eight : length l ≡ 8) (hex : all is_hex l ≡ true) where
+module _ (w : ℕ) (l : List ℕ) (e : w ≡ from_le_bytes w64 l) (eight : length l ≡ 8) (hex : all is_hex l ≡ true) where
   listed : l ≡ items l 0 8
   listed = itemized l 8 0 (omega (arith, eight))
 
   small : Below 16 (map digit_value (items l 0 8))
   small = subst (λ (t : List ℕ). Below 16 (map digit_value t)) listed (values_small l hex)
 
+  read : w ≡ lowest_first 256 l
+  unfolding lowest_first
+  read = let t : from_le_bytes w64 l ≡ lowest_first 256 (items l 0 8) = omega arith in e ∙ t ∙ ap (lowest_first 256) (sym listed)
+
   word_of : digits_of w ≡ lowest_first 256 (map digit_value (items l 0 8))
-  word_of = ap digits_of e ∙ digits_of_lem l eight hex ∙ ap (λ (t : List ℕ). lowest_first 256 (map digit_value t)) listed
+  word_of = ap digits_of read ∙ digits_of_lem l eight hex ∙ ap (λ (t : List ℕ). lowest_first 256 (map digit_value t)) listed
 
   -- its values have room for the steps
   pub digits_small : digits_of w ≤ 0x0f0f0f0f0f0f0f0f

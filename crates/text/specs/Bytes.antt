@@ -21,10 +21,6 @@ unfoldable pub all : (ℕ → Bool) → List ℕ → Bool
 all test [] = true
 all test (b ∷ l) = test b && all test l
 
--- the eight elements from a place on
-abbrev pub eight_at : ℕ → List ℕ → List ℕ
-eight_at at l = take 8 (drop at l)
-
 -- the elements at the front, as far as a test holds
 unfoldable pub leading : (ℕ → Bool) → List ℕ → List ℕ
 leading test [] = []

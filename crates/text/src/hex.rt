@@ -1,12 +1,13 @@
 // Eight hexadecimal digits: whether they are, and the number that they say.
-ghost use Rattle.std.specs.Prelude.{◌≡◌, true, cond, ◌+◌, ◌≤◌, ◌<◌, length, take, drop};
+ghost use Rattle.std.specs.Prelude.{◌≡◌, true, cond};
 ghost use Rattle.std.specs.declared.option.Option.TheVariants.{Some, None};
-ghost use Rattle.text.specs.Bytes.{all, eight_at};
+ghost use Rattle.text.specs.Bytes.{all};
 ghost use Rattle.text.specs.Digits.{is_hex, value};
 
 // Whether a byte is a hexadecimal digit. The tests are joined without a branch, so that eight bytes
 // can be tested at once.
-pub(crate) fn is_hex(b: u8) -> bool
+#[tactic(auto, unfolding(crate::specs::Digits::is_hex, crate::specs::Digits::is_decimal))]
+fn is_hex(b: u8) -> bool
     ensures { result ≡ is_hex b }
 {
     (b'0' <= b) & (b <= b'9') | (b'a' <= b) & (b <= b'f')

@@ -4,10 +4,8 @@
 
 mod digits;
 mod hex;
-mod hex_at;
 mod write;
 
 pub use digits::places;
 pub use hex::from_hex;
-pub use hex_at::{all_hex, hex_number};
 pub use write::{Decimal, Hex, Text, put_bytes};

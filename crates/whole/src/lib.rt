@@ -21,8 +21,8 @@ pub fn is_whole(nx: u32, ny: u32) -> bool
     is_integerf(ny) as u32 + small_y as u32 + small_x as u32 == 3
 }
 
-// s where n is odd, and 1 where it is even. The patterns are reckoned with, since a branch on the bits
-// of n could not be foreseen.
+// s where n is odd, and 1 where it is even. The patterns are reckoned with: of an `if` the compiler
+// makes a branch on the bits of n, which could not be foreseen.
 fn factor(s: f64, n: u32) -> f64
     requires { T (not (is_nan s)) }
     ensures { result ≡ (if nat_eq (n % 2) 1 then s else one) }

@@ -97,11 +97,6 @@ absolute_of_bits binary64 nan t = refl
 absolute_of_bits f (inf s) t = magnitude_is f (inf s) t tt
 absolute_of_bits f (fin s m e) t = magnitude_is f (fin s m e) t tt
 
--- what `absf` and `abs` are made of: a NaN is its own size, and another pattern without its sign is no NaN's
-pub absolute_of_nan : (x : Float) → x ≡ nan → x ≡ absolute x
-unfolding absolute
-absolute_of_nan x e = e ∙ sym (ap absolute e)
-
 -- std's `abs` takes off the sign by `float_with_sign`, at a NaN too
 pub sign_off : (x : Float) → float_with_sign false x ≡ absolute x
 unfolding float_with_sign absolute

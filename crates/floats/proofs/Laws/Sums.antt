@@ -186,18 +186,19 @@ add_turned f (fin s m e) (fin t n d) =
     sum_turned f s (m * up e * down d) t (n * up d * down e) (down e * down d) ∙ ap (λ (c : ℕ). sum f t (n * up d * down e) s (m * up e * down d) c) (mul_comm (down e) (down d))
 
 -- ---- the order
-plain : (x : Float) → T (finite x) → T (not (is_nan x))
+-- a finite value is no NaN
+pub finite_number : (x : Float) → T (finite x) → T (not (is_nan x))
 unfolding is_nan
-plain nan p = p
-plain (inf s) p = tt
-plain (fin s m e) p = tt
+finite_number nan p = p
+finite_number (inf s) p = tt
+finite_number (fin s m e) p = tt
 
 -- with one of the two the same
 pub add_mono : (f : Format) (c x y : Float) → T (finite c) → T (finite x) → T (finite y) → T (le x y) → T (le (add f c x) (add f c y))
-add_mono f c x y p q r h = sums_mono f c c x y p p q r (le_refl c (plain c p)) h
+add_mono f c x y p q r h = sums_mono f c c x y p p q r (le_refl c (finite_number c p)) h
 
 pub add_mono_left : (f : Format) (c x y : Float) → T (finite c) → T (finite x) → T (finite y) → T (le x y) → T (le (add f x c) (add f y c))
-add_mono_left f c x y p q r h = sums_mono f x y c c q r p p h (le_refl c (plain c p))
+add_mono_left f c x y p q r h = sums_mono f x y c c q r p p h (le_refl c (finite_number c p))
 
 -- the patterns of the sums of two values and a third, each with a clear sign
 sum_clear : (f : Format) (m c : ℕ) → Finite f m → Finite f c → T (clear (add f (of_bits f m) (of_bits f c)))

@@ -12,4 +12,3 @@ returns-then-m-lt2139095040 c = widened_signed c.args.n (omega arith) (omega (ar
 -- whose pattern is no NaN's
 pub float_from_bits-result : goal.float_from_bits-result
 float_from_bits-result c = let n = c.args.n in number_of_below binary64 (wide (n % 0x80000000) (n - n % 0x80000000)) (wide_number n (omega arith) (omega (arith, leb-true)) (omega (arith, ltb-true)))
-
