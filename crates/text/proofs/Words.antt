@@ -1,7 +1,6 @@
 -- Digits that lie side by side in one number, the lowest first, and steps that act on all of them at once: a mask on each, and neighbours joined. Assumes nothing.
 use mathlib.Core.Path.{◌≡◌, refl, sym, ap, ap₂, subst, ◌∙◌}
 use mathlib.Core.Bool.{true}
-use mathlib.Core.Logic.{⊎_elim}
 use mathlib.Core.List.{List, [], ◌∷◌, map}
 use Prim.Native.Nat.{ℕ, zero, suc, ◌+◌, ◌*◌, ◌/◌, ◌%◌, ◌^◌, ◌≤◌, ◌<◌}
 use native.Mathlib.Omega.{arith}
@@ -11,10 +10,11 @@ use lib.Bits.{bit_and, and_block, and_mask, and_high}
 use lib.Dec.{lit<}
 use lib.ListN.{length, get_or, drop, replicate, drop_of_length-le}
 use lib.Seq.{drop-cons}
+use Rattle.std.proofs.lemmas.Bool.Decides.{nat_tests}
 use Rattle.std.specs.Int.{from_le_bytes}
 use Rattle.text.specs.Bytes.{all}
-use Rattle.text.specs.Digits.{is_hex, digit_value, value, value_from}
-use Rattle.text.proofs.Numerals.{both, Between, is_hex_lem, low_value, high_value, sixteen}
+use Rattle.text.specs.Digits.{is_decimal, is_hex, digit_value, value, value_from}
+use Rattle.text.proofs.Numerals.{both, sixteen}
 
 -- ---- bytes read as one number
 -- the number of digits in a base, the lowest first
@@ -44,16 +44,12 @@ abbrev letter : ℕ → ℕ
 letter b = b / 64 % 2
 
 worth : (b : ℕ) → is_hex b ≡ true → low b + letter b * 9 ≡ digit_value b
-worth b e = ⊎_elim decimal other (is_hex_lem b e)
-  where
-    decimal : Between 48 b 57 → low b + letter b * 9 ≡ digit_value b
-    decimal t = rw (low_value b t.to) (omega (arith, t.from, t.to))
-
-    other : Between 97 b 102 → low b + letter b * 9 ≡ digit_value b
-    other t = rw (high_value b (omega (arith, t.from))) (omega (arith, t.from, t.to))
+unfolding is_decimal is_hex digit_value
+worth b e = grind (arith, nat_tests)
 
 byte : (b : ℕ) → is_hex b ≡ true → b < 256
-byte b e = ⊎_elim (λ t. omega (arith, t.to)) (λ t. omega (arith, t.to)) (is_hex_lem b e)
+unfolding is_decimal is_hex
+byte b e = grind (arith, nat_tests)
 
 bytes : (l : List ℕ) → all is_hex l ≡ true → Below 256 l
 unfolding all
