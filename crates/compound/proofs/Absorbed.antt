@@ -1,5 +1,5 @@
 -- Where |x| is at most 2^-54, 1 + x is 1, its logarithm is 0, and so is t, so that the answer is at the edge of 1 (`absorbed_edge`). Assumes nothing.
-use mathlib.Core.Path.{◌≡◌, refl, sym, ◌∙◌, subst}
+use mathlib.Core.Path.{◌≡◌, refl, sym, ◌∙◌}
 use mathlib.Core.Logic.{◌⊎◌, inl, inr}
 use mathlib.Core.Bool.{true, false}
 use Prim.Native.Nat.{ℕ, ◌+◌, ◌≤◌, ◌<◌}
@@ -15,7 +15,7 @@ use Rattle.double_double.specs.DoubleDouble.{split, from_exact_mult, from_full_e
 use Rattle.tables.specs.Tables.{entry, from_bit_pair, pair_entry, log2p1_compoundf_inv, log2p1_compoundf_log2_inv, log2p1_poly_p}
 use Rattle.special.specs.Special.{one, minus_one}
 use Rattle.fast_path.specs.Scaling.{scaled, biased, exponent_of}
-use Rattle.fast_path.specs.Fast.{inverse_index, log2p1_polyeval1, compoundf_log2p1_fast}
+use Rattle.fast_path.specs.Fast.{factor, log2p1, inverse_index, log2p1_polyeval1, compoundf_log2p1_fast}
 use Rattle.fmla.proofs.Order.{add_keeps, finite_between, same_float}
 use Rattle.bounds.proofs.Values.{plus, less, mag, one_side, Number}
 use Rattle.bounds.proofs.OwnScale.{Nil, nil_product}
@@ -69,22 +69,29 @@ sum_is_one x n h =
         let o = level (plus s) (less s) (plus one) (le_units one s one_is.0 n g) (le_units s one n one_is.0 h) (one_side s) (lit< tt) in
         sym (same_float one s one_is.0 n o.0 o.1 one_is.1)
 
--- the logarithm, from 1 + x
-of_sum : Float → Float
-of_sum u =
-    let v = to_bits binary64 u in
+-- the fast logarithm, from the pattern of 1 + x
+abbrev pub fast_at : ℕ → Float
+fast_at v =
     let e = exponent_of v in
     let t = f64 (scaled v (neg_ℤ e)) in
     let i = inverse_index t in
     of_int binary64 e ⊕ ((pair_entry log2p1_compoundf_log2_inv i).hi ⊕ log2p1_polyeval1 (dd_fmla (entry log2p1_compoundf_inv i) t minus_one))
 
-of_one : Nil (of_sum one)
-unfolding of_sum of_bits to_bits of_int add sub mul fits split from_exact_mult from_full_exact_add full_add_f64 dd_fmla entry from_bit_pair pair_entry log2p1_compoundf_inv log2p1_compoundf_log2_inv log2p1_poly_p scaled biased exponent_of inverse_index log2p1_polyeval1
-of_one = record { number = record { held = tt; plain = tt }; is = refl }
+pub fast_at_lem : (x : Float) → compoundf_log2p1_fast x ≡ fast_at (to_bits binary64 (one ⊕ x))
+unfolding log2p1
+fast_at_lem x = refl
+
+-- at 1 it is 0
+pub at_one : Nil (fast_at 0x3ff0000000000000)
+unfolding of_bits to_bits of_int add sub mul fits split from_exact_mult from_full_exact_add full_add_f64 dd_fmla entry from_bit_pair pair_entry log2p1_compoundf_inv log2p1_compoundf_log2_inv log2p1_poly_p scaled biased exponent_of inverse_index factor
+at_one = record { number = record { held = tt; plain = tt }; is = refl }
+
+one_bits : to_bits binary64 one ≡ 0x3ff0000000000000
+unfolding to_bits
+one_bits = refl
 
 log_nil : (x : Float) → one ⊕ x ≡ one → Nil (compoundf_log2p1_fast x)
-unfolding compoundf_log2p1_fast of_sum
-log_nil x e = subst (λ (u : Float). Nil (of_sum u)) (sym e) of_one
+log_nil x e = rw (fast_at_lem x, e, one_bits) at_one
 
 -- so the answer is at the edge of 1
 pub absorbed_edge : (x y : Float) → Tabled x y → Absorbed x → ◌≡◌ {A = Outcome} (record { via = edge; value = one }) (table_path x y)

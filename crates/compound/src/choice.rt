@@ -10,7 +10,7 @@ ghost use Rattle.fast_path.specs.Fast.{exp2_fast};
 ghost use Rattle.compound.specs.Route as spec;
 
 use crate::Answer;
-use fast_path::{Exp2, compoundf_log2p1_fast, exp2_fast};
+use fast_path::{compoundf_log2p1_fast, exp2_fast};
 use filter::{Found, filtered};
 use floats::narrowing::narrow;
 use slow_filter::slow_answer;
@@ -25,8 +25,8 @@ fn decided(pair: Operands, t: f64) -> Answer
     ensures { outcome result ≡ spec.decided pair.x pair.y (exp2_fast t) }
 {
     match exp2_fast(t) {
-        Exp2::Rounded(v) => Answer::Fast(narrow(v)),
-        Exp2::Failed => Answer::Slow(compoundf_accurate(pair.x, pair.y)),
+        Some(v) => Answer::Fast(narrow(v)),
+        None => Answer::Slow(compoundf_accurate(pair.base(), pair.y)),
     }
 }
 
@@ -73,12 +73,12 @@ pub(crate) fn table_path(nx: u32, ny: u32) -> Answer
         return Answer::Edge(1.0);
     }
     let pair = Operands::widened(nx, ny);
-    match filtered(pair.x, pair.y) {
-        Found::Fast(v) => Answer::Fast(v),
-        Found::Slow => Answer::Slow(slow_answer(pair.x, pair.y)),
-        Found::Low => Answer::Edge(0.0),
-        Found::High => Answer::Edge(f32::INFINITY),
-        Found::One => Answer::Edge(1.0),
-        Found::Unsure => as_written(pair),
+    match filtered(pair) {
+        Some(Found::Fast(v)) => Answer::Fast(v),
+        Some(Found::Slow) => Answer::Slow(slow_answer(pair)),
+        Some(Found::Low) => Answer::Edge(0.0),
+        Some(Found::High) => Answer::Edge(f32::INFINITY),
+        Some(Found::One) => Answer::Edge(1.0),
+        None => as_written(pair),
     }
 }

@@ -34,3 +34,6 @@ field_held b h = in_float_signed binary64 (to_z w64 (of_z w64 (to_z w64 b -ℤ p
   where
     small : (b : ℕ) → b ≤ 2048 → nat_abs (to_z w64 (of_z w64 (to_z w64 b -ℤ pos 1023))) ≤ 2 ^ 53
     small b h = omega (arith, ints)
+
+-- what proves `exponent`
+pub ruleset field = (biased_below, field_held)

@@ -15,6 +15,7 @@ use Rattle.floats.proofs.Laws.Sums.{add_mono, add_mono_left, whole_distance, Siz
 use Rattle.floats.proofs.Laws.Cast.{part_at_most, signed_cast, whole_twice, whole_fits}
 use Rattle.fast_path.specs.Scaling.{scaled, biased, exponent_of, Within}
 use Rattle.fast_path.specs.Fast.{inverse_index, HasInverse, power_index, HasPower}
+pub use Rattle.fast_path.proofs.Field.{biased_below, biased_away}
 use Rattle.fast_path.proofs.Lifted.{within_read}
 
 -- ---- a value between two others
@@ -133,6 +134,9 @@ reduced_pattern v small =
     let l = left v in
     let e = taken_out v (biased v) small l.enough in
     (e, le_trans l.from (le_of_eq (sym e)), le_trans (le_of_eq e) l.to)
+
+-- what proves `reduced`
+pub ruleset reduced = (biased_below, biased_away, reduced_pattern)
 
 -- so it is no NaN's
 pub reduced_number : (v : ℕ) → v < 2 ^ 63 → T (not (nan_bits binary64 (scaled v (neg_ℤ (exponent_of v)))))

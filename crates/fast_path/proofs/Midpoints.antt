@@ -13,6 +13,7 @@ use Rattle.floats.specs.Narrowing.{narrowed}
 use Rattle.floats.proofs.Laws.Magnitude.{below_infinity}
 use Rattle.floats.proofs.Laws.Compare.{key, key_clear, eq_by_key, number_of_bits, lt_of_bits}
 use Rattle.floats.proofs.Laws.Nearby.{UnitsAtMost, units_of_neg, units_of_pattern, Between, add_nearby}
+pub use Rattle.floats.proofs.Laws.Nan.{number_of_below}
 use Rattle.floats.proofs.Laws.Narrow.{normal_magnitude, narrowed_number, narrowed_fits}
 use Rattle.fast_path.specs.Fast.{rounding_test}
 use Rattle.floats.proofs.Laws.Powers.{normal_value}
@@ -127,6 +128,9 @@ under_normals w h =
 pub below_normal : (w e : ℕ) → w < 0x3810000000000000 → None ≡ rounding_test (f64 w) (f64 e)
 unfolding rounding_test
 below_normal w e h = first (lt (f64 w) (f64 0x38100000000008e2)) None _ (under_normals w h)
+
+-- what proves `pattern_test`
+pub ruleset by_pattern = (clear_of_midpoints, below_normal, number_of_below)
 
 -- ---- near a midpoint the second test fails, for a v from 1/2 to 2 and the error as it is before it is scaled
 -- the value of a pattern with the field i + 1, whose last place is 2^i units

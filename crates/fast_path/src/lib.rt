@@ -106,30 +106,27 @@ fn rounding_test(v: f64, err: f64) -> Option<f64>
     }
     let lb = narrow(v - err);
     let rb = narrow(v + err);
-    if lb != rb {
-        return None;
-    }
-    Some(v)
+    if lb != rb { None } else { Some(v) }
 }
 
 // `rounding_test` by the patterns w of v and e of err. Where e <= w - 40 * 2^52, err is at most 2^-40
 // of v, and so below 2^13 last places of it, or 2^14 of those below a power of two. If no midpoint of
 // two f32s is that near to v, both bounds narrow to one f32.
-#[tactic(auto, using(crate::proofs::Midpoints::clear_of_midpoints, crate::proofs::Midpoints::below_normal, floats::proofs::Laws::Nan::number_of_below))]
+#[tactic(auto, using(crate::proofs::Midpoints::by_pattern))]
 fn pattern_test(w: u64, e: u64) -> Option<f64>
     ensures { result ≡ spec.rounding_test (f64 w) (f64 e) }
 {
     if w < 0x3810_0000_0000_0000 {
-        return None;
-    }
-    if w >= 0x3810_0000_0000_4000
+        None
+    } else if w >= 0x3810_0000_0000_4000
         && w < 0x7fe0_0000_0000_0000
         && e <= w - 0x280_0000_0000_0000
         && (w + 0x1000_2000) % 0x2000_0000 > 0x6000
     {
-        return Some(f64::from_bits(w));
+        Some(f64::from_bits(w))
+    } else {
+        rounding_test(f64_from_bits_with_nan(w), f64_from_bits_with_nan(e))
     }
-    rounding_test(f64_from_bits_with_nan(w), f64_from_bits_with_nan(e))
 }
 
 // Near 2^t, where the rounding test passes.

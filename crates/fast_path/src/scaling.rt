@@ -19,13 +19,14 @@ pub fn biased(v: u64) -> u64
 {
     let e = v / 0x10_0000_0000_0000;
     if v % 0x10_0000_0000_0000 >= 0x6_a09e_667f_3bcd {
-        return e + 1;
+        e + 1
+    } else {
+        e
     }
-    e
 }
 
 // The source's e, as an f64, for the pattern v.
-#[tactic(auto, using(crate::proofs::Field::biased_below, crate::proofs::Field::field_held), unfolding(crate::specs::Scaling::exponent_of))]
+#[tactic(auto, using(crate::proofs::Field::field), unfolding(crate::specs::Scaling::exponent_of))]
 pub fn exponent(v: u64) -> f64
     requires { v < 2 ^ 63 }
     ensures { result ≡ of_int binary64 (spec.exponent_of v) }
@@ -34,7 +35,7 @@ pub fn exponent(v: u64) -> f64
 }
 
 // The pattern v without its e: the number between 1/sqrt(2) and sqrt(2) that has the same digits.
-#[tactic(auto, using(crate::proofs::Field::biased_below, crate::proofs::Field::biased_away, crate::proofs::Index::reduced_pattern))]
+#[tactic(auto, using(crate::proofs::Index::reduced))]
 pub fn reduced(v: u64) -> u64
     requires { v < 2 ^ 63 }
     ensures { result ≡ spec.scaled v (neg_ℤ (spec.exponent_of v)) }

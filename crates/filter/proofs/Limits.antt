@@ -49,10 +49,6 @@ pub is_129 : of_bits binary64 0x4060200000000000 ≡ fin false 129 (pos 0)
 unfolding of_bits
 is_129 = refl
 
-pub is_minus_1 : of_bits binary64 0xbff0000000000000 ≡ fin true 1 (pos 0)
-unfolding of_bits
-is_minus_1 = refl
-
 pub is_minus_124 : of_bits binary64 0xc05f000000000000 ≡ fin true 31 (pos 2)
 unfolding of_bits
 is_minus_124 = refl
@@ -61,7 +57,12 @@ pub is_124 : of_bits binary64 0x405f000000000000 ≡ fin false 31 (pos 2)
 unfolding of_bits
 is_124 = refl
 
-pub ruleset numbers = (is_minus_151, is_minus_299_halves, is_minus_128, is_minus_124, is_124, is_129, is_minus_1)
+pub is_minus_1 : of_bits binary64 0xbff0000000000000 ≡ fin true 1 (pos 0)
+unfolding of_bits
+is_minus_1 = refl
+
+-- what proves `low_found` and `high_found`
+pub ruleset edges = (is_minus_151, is_minus_299_halves, is_minus_128, is_129)
 
 -- ---- the numbers of the tests
 -- -150 and 128

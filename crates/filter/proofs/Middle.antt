@@ -24,6 +24,7 @@ use Rattle.bounds.proofs.Distances.{apart_at}
 use Rattle.bounds.proofs.Apart.{apart_same}
 use Rattle.bounds.proofs.Compared.{le_of_units, units_in_size, units_of_not_lt}
 use Rattle.filter.specs.Plain.{part_of, rest_of, plain_pattern, switch_gap, part_end, rest_end, clear_of_switches, is_tiny, Middle}
+pub use Rattle.filter.proofs.Limits.{is_minus_124, is_124}
 use Rattle.filter.proofs.Limits.{InsideEdges, inside_edges, middle_bound, part_bound, rest_bound}
 use Rattle.filter.proofs.Power.{Unscaled, power_beside}
 use Rattle.filter.proofs.NotZero.{not_zero}
@@ -105,6 +106,9 @@ middle_of t f p g h a =
     let low : Number (fin true 31 (pos 2)) = record { held = tt; plain = tt } in
     let high : Number (fin false 31 (pos 2)) = record { held = tt; plain = tt } in
     record { least = le_of_units (fin true 31 (pos 2)) t low n (units_of_not_lt n low g); most = le_of_units t (fin false 31 (pos 2)) n high (units_of_not_lt high n h); apart = a }
+
+-- what proves `plain_found`
+pub ruleset ends = (is_minus_124, is_124, middle_of)
 
 -- between the edges k can be cast, and what is left of t has a power
 module _ (t : Float) (f : T (fits binary64 t)) (edges : InsideEdges t) where

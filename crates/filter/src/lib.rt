@@ -29,15 +29,38 @@ pub mod midpoints;
 pub mod plain;
 pub mod split;
 
-// 2^-30: further than this from a switch of k or of the index, the fast path's own t is on the same side of
-// it.
-const SWITCH_GAP: f64 = f64::from_bits(0x3e10_0000_0000_0000);
+// A pattern that is further than this from every midpoint of two f32s settles the answer.
+const MARGIN: u64 = 0x10_8000;
 
-// 2^-14
-const NEAR_0: f64 = f64::from_bits(0x3f10_0000_0000_0000);
+// One that is at most as far as this from a midpoint, and next to 1, settles that the rounding test
+// fails.
+const NEARNESS: u64 = 0x800;
+
+// 2^-14: the power of a t of at most this size is next to 1.
+const NEXT_TO: f64 = f64::from_bits(0x3f10_0000_0000_0000);
+
+// 2^-30: further than this from a switch of k or of the index, the fast path's own t is on the same side
+// of it.
+const SWITCH_GAP: f64 = f64::from_bits(0x3e10_0000_0000_0000);
 
 // 2^-300
 const TINY: f64 = f64::from_bits(0x2d30_0000_0000_0000);
+
+// From and to these, the power is near that of t.
+const MIDDLE_FROM: f64 = -124.0;
+
+const MIDDLE_TO: f64 = 124.0;
+
+// At most this, t is at the lower edge.
+const LOW_EDGE: f64 = -151.0;
+
+// From and to these, the value is below the normal f32s.
+const SLOW_FROM: f64 = -149.5;
+
+const SLOW_TO: f64 = -128.0;
+
+// At least this, t is at the upper edge.
+const HIGH_EDGE: f64 = 129.0;
 
 // What is found of a pair: the fast answer; that the fast path fails its tests, so that the answer is
 // the slow one; that t is at the lower edge, at the upper edge, or so small that the answer is 1.
@@ -58,10 +81,7 @@ fn near_midpoint(t: f64, w: u64) -> Option<Found>
     requires { w < 1148 * 2 ^ 52 }
     ensures { result ≡ spec.near_midpoint t w }
 {
-    if is_within(t, NEAR_0) & !clear_of_midpoints(w, 0x800) {
-        return Some(Found::Slow);
-    }
-    None
+    (is_within(t, NEXT_TO) & !clear_of_midpoints(w, NEARNESS)).then_some(Found::Slow)
 }
 
 // The answer of the scaled pattern w, where no midpoint of two f32s is within 2^20 + 2^15 of it.
@@ -71,7 +91,7 @@ fn rounded_pattern(t: f64, w: u64) -> Option<Found>
     requires w_below { w < 1148 * 2 ^ 52 }
     ensures { result ≡ spec.rounded_pattern t w }
 {
-    match narrowed_pattern(w, 0x10_8000) {
+    match narrowed_pattern(w, MARGIN) {
         Some(v) => Some(Found::Fast(v)),
         None => near_midpoint(t, w),
     }
@@ -86,13 +106,15 @@ fn in_two_steps(t: f64) -> Option<Found>
 {
     let s = Split::of(t);
     if s.is_clear(SWITCH_GAP) {
-        return rounded_pattern(t, scaled(s.power(), s.k));
+        rounded_pattern(t, scaled(s.power(), s.k))
+    } else {
+        None
     }
-    None
 }
 
 // The same in one step, where the nearest 32nd is not halfway between two whole numbers and no switch of
 // the index is near.
+#[tactic(auto, using(crate::proofs::OneStep::at_once), unfolding(crate::specs::Plain::middle_found))]
 fn middle_found(t: f64) -> Option<Found>
     requires { spec.Middle t }
     ensures { result ≡ spec.middle_found t }
@@ -106,44 +128,30 @@ fn middle_found(t: f64) -> Option<Found>
     if (i > 0) & clear_of_index(rest, SWITCH_GAP) {
         let power = power::<Plain>(i, rest);
         let field = n / 32 % 0x1000 * 0x10_0000_0000_0000;
-        return rounded_pattern(t, std::num::wrapping_add_u64(power, field));
+        rounded_pattern(t, power.wrapping_add(field))
+    } else {
+        in_two_steps(t)
     }
-    in_two_steps(t)
 }
 
-// At most this, t is at the lower edge, and from and to these the value is below the normal f32s.
-const LOW_EDGE: f64 = -151.0;
-
-const SLOW_FROM: f64 = -149.5;
-
-const SLOW_TO: f64 = -128.0;
-
 // For t below -124.
-#[tactic(auto, using(crate::proofs::Limits::numbers), unfolding(crate::specs::Plain::low_found))]
+#[tactic(auto, using(crate::proofs::Limits::edges), unfolding(crate::specs::Plain::low_found))]
 fn low_found(t: f64) -> Option<Found>
     ensures { result ≡ spec.low_found t }
 {
     if t <= LOW_EDGE {
-        return Some(Found::Low);
+        Some(Found::Low)
+    } else {
+        ((t <= SLOW_TO) & (t >= SLOW_FROM)).then_some(Found::Slow)
     }
-    if (t <= SLOW_TO) & (t >= SLOW_FROM) {
-        return Some(Found::Slow);
-    }
-    None
 }
 
-// At least this, t is at the upper edge.
-const HIGH_EDGE: f64 = 129.0;
-
 // For t above 124.
-#[tactic(auto, using(crate::proofs::Limits::numbers), unfolding(crate::specs::Plain::high_found))]
+#[tactic(auto, using(crate::proofs::Limits::edges), unfolding(crate::specs::Plain::high_found))]
 fn high_found(t: f64) -> Option<Found>
     ensures { result ≡ spec.high_found t }
 {
-    if t >= HIGH_EDGE {
-        return Some(Found::High);
-    }
-    None
+    (t >= HIGH_EDGE).then_some(Found::High)
 }
 
 // For |t| below 2^-300.
@@ -151,10 +159,7 @@ fn high_found(t: f64) -> Option<Found>
 fn tiny_found(t: f64) -> Option<Found>
     ensures { result ≡ spec.tiny_found t }
 {
-    if t == 0.0 {
-        return Some(Found::One);
-    }
-    None
+    (t == 0.0).then_some(Found::One)
 }
 
 // Whether |t| is below 2^-300.
@@ -165,27 +170,21 @@ fn is_tiny(t: f64) -> bool
     (t > -TINY) & (t < TINY)
 }
 
-// What is between these has its power near it.
-const MIDDLE_FROM: f64 = -124.0;
-
-const MIDDLE_TO: f64 = 124.0;
-
 // For the t of the plain logarithm.
-#[tactic(auto, using(crate::proofs::Limits::numbers, crate::proofs::Middle::middle_of), unfolding(crate::specs::Plain::plain_found))]
+#[tactic(auto, using(crate::proofs::Middle::ends), unfolding(crate::specs::Plain::plain_found))]
 fn plain_found(t: f64) -> Option<Found>
     requires { T (finite t) }
     ensures { result ≡ spec.plain_found t }
 {
     if t < MIDDLE_FROM {
-        return low_found(t);
+        low_found(t)
+    } else if t > MIDDLE_TO {
+        high_found(t)
+    } else if is_tiny(t) {
+        tiny_found(t)
+    } else {
+        middle_found(t)
     }
-    if t > MIDDLE_TO {
-        return high_found(t);
-    }
-    if is_tiny(t) {
-        return tiny_found(t);
-    }
-    middle_found(t)
 }
 
 // What is found of x and y.

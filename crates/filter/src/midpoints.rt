@@ -23,7 +23,8 @@ pub fn narrowed_pattern(w: u64, margin: u64) -> Option<f32>
 {
     if clear_of_midpoints(w, margin) {
         let n = (w + 0x1000_0000) / 0x2000_0000 - 0x1_c000_0000;
-        return Some(f32::from_bits(n as u32));
+        Some(f32::from_bits(n as u32))
+    } else {
+        None
     }
-    None
 }

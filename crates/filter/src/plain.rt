@@ -16,7 +16,7 @@ impl MulAdd for Plain {
         a * b + c
     }
 
-    #[tactic(auto, using(crate::proofs::Limits::numbers))]
+    #[tactic(auto, using(crate::proofs::Limits::is_minus_1))]
     fn times_minus_one(r: f64, t: f64) -> f64 {
         r * t + MINUS_ONE
     }

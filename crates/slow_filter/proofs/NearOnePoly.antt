@@ -115,10 +115,6 @@ module _ (z : DoubleDouble) (z' : Float) (hi : Bound fine (2 ^ 53 + 2 ^ 18) z.hi
   q1 : DoubleDouble
   q1 = next_exp2 (next_exp2 (next_exp2 (highest_exp2 z.hi) z 5) z 3) z 1
 
-  q1_hi : slow_1 ≡ q1.hi
-  unfolding slow_1 above q1 with_term next_exp2 highest_exp2 quick_mult from_exact_mult from_exact_add
-  q1_hi = refl
-
   q1_lo : Bound S (2 ^ 5) q1.lo
   unfolding q1
   q1_lo =
@@ -165,12 +161,3 @@ module _ (z : DoubleDouble) (z' : Float) (hi : Bound fine (2 ^ 53 + 2 ^ 18) z.hi
     near = unfold w w' in apart_at 136400 (product_apart times_fine degree_1.near a degree_1.slow hi degree_1.plain b tt) tt;
     parts = subst (Parts fine 65620 80 (q2 0) w) poly_is (parts_at 65620 80 (more_low q_lo t_parts tt) tt tt);
   }
-
--- ---- the short polynomial by itself is from 1/2 to 2
-pub near_one_unscaled : (z' : Float) → Bound S (2 ^ 37) z' → Unscaled (to_bits binary64 (near_one_power z'))
-unfolding near_one_power
-near_one_unscaled z' b =
-    let one = unit_left unit in
-    let c3 = add_bound sizes.1 (mul_bound one sizes.2 b tt tt) tt in
-    let c1 = add_bound sizes.0 (mul_bound one c3 b tt tt) tt in
-    unscaled (positive_at (2 ^ 52) (2 ^ 54 - 1) (positive_add q2_first (mul_bound one c1 b tt tt) tt tt) tt tt)

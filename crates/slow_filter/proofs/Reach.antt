@@ -45,11 +45,6 @@ in_parts y t e =
     let o = three (ne y one) (le t slow_to) (le slow_from t) e in
     record { not_one = o.0; high = o.1; low = o.2 }
 
-pub reached : (y t : Float) → in_reach y t ≡ true → T (le t slow_to) × T (le slow_from t)
-reached y t e =
-    let r = in_parts y t e in
-    (subst T (sym r.high) tt, subst T (sym r.low) tt)
-
 pub record Next (y t : Float) : Type 0 where
   pub not_one : ne y one ≡ true
   pub most : le (absolute t) next_to ≡ true
@@ -60,9 +55,6 @@ unfolding next_to_one
 next_parts y t e =
     let o = three (ne y one) (le (absolute t) next_to) (le next_from (absolute t)) e in
     record { not_one = o.0; most = o.1; least = o.2 }
-
-pub next_reached : (y t : Float) → next_to_one y t ≡ true → T (le (absolute t) next_to)
-next_reached y t e = subst T (sym (next_parts y t e).most) tt
 
 -- ---- |t| at most 2^-16, and 2^-25 at least
 -- what is at most 2^-16 in size is a number

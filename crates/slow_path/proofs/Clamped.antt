@@ -1,8 +1,8 @@
 -- The index and the power of two of the slow path, which are cut to their ranges: the index is inside its table, and the power is one that an i64
 -- holds, and its cast is defined. Inside the ranges nothing is cut (`index_unclamped`, `k_unclamped`). Assumes nothing.
-use Rattle.std.proofs.Common.{◌≡◌, ℕ, ◌+◌, ◌*◌, ◌^◌, ◌<◌, ◌≤◌, min, Bool, true, false, cond, not, T, ltb, pos, negsuc, sym, refl, subst, ap₂, true≢false, arith, lit≤, nltb→le}
+use Rattle.std.proofs.Common.{◌≡◌, ℕ, ◌+◌, ◌*◌, ◌^◌, ◌<◌, ◌≤◌, min, Bool, true, false, cond, not, T, ltb, pos, negsuc, sym, refl, ap, subst, ap₂, true≢false, arith, lit≤, nltb→le}
 use Rattle.std.specs.Float.{float_clamp}
-use lib.Ieee.{Float, nan, inf, fin, binary64, up, down, lt, to_signed, is_nan, fits}
+use lib.Ieee.{Float, nan, inf, fin, binary64, up, down, round, lt, to_signed, is_nan, fits}
 use Rattle.floats.specs.Narrowing.{nearest_whole}
 use Rattle.floats.proofs.Laws.Sums.{SizeAtMost}
 use Rattle.fast_path.specs.Scaling.{Within}
@@ -24,10 +24,6 @@ clamped_size (inf true) g h n = absurd (true≢false h)
 clamped_size (inf false) g h n = absurd (true≢false g)
 clamped_size (fin true m e) g h n = test_failed (m * up e) (down e) h
 clamped_size (fin false m e) g h n = test_failed (m * up e) (down e) g
-
--- and a whole one
-pub clamped_k_lem : (k : Float) → T (fits binary64 k) → nearest_whole k ≡ k → lt (fin false 125 (pos 3)) k ≡ false → lt k (fin true 125 (pos 3)) ≡ false → T (not (is_nan k)) → Castable k
-clamped_k_lem k t w g h n = castable k t w (clamped_size k g h n)
 
 -- an index that is cut to 32 is below 33
 pub clamped_index_below : (r : Float) → clamped_index r < 33
@@ -87,3 +83,23 @@ clamp_is k = go (lt k (fin true 125 (pos 3))) (lt (fin false 125 (pos 3)) k)
     go true b = refl
     go false true = refl
     go false false = refl
+
+-- and the cast is defined where k is whole
+pub clamped_castable : (k : Float) → T (fits binary64 k) → nearest_whole k ≡ k → T (not (is_nan k)) → Castable (float_clamp k (fin true 125 (pos 3)) (fin false 125 (pos 3)))
+clamped_castable k t w n = go (lt k (fin true 125 (pos 3))) refl (lt (fin false 125 (pos 3)) k) refl
+  where
+    low : Castable (fin true 125 (pos 3))
+    low = unfold fits nearest_whole round in castable (fin true 125 (pos 3)) tt refl (lit≤ tt)
+
+    high : Castable (fin false 125 (pos 3))
+    high = unfold fits nearest_whole round in castable (fin false 125 (pos 3)) tt refl (lit≤ tt)
+
+    go : (a : Bool) → lt k (fin true 125 (pos 3)) ≡ a → (b : Bool) → lt (fin false 125 (pos 3)) k ≡ b → Castable (cond a (fin true 125 (pos 3)) (cond b (fin false 125 (pos 3)) k))
+    go true g b h = low
+    go false g true h = high
+    go false g false h = castable k t w (clamped_size k h g n)
+
+-- a NaN counts as 0
+pub clamped_nan : (k : Float) → k ≡ nan → pos 0 ≡ clamped_k k
+unfolding clamped_k lt to_signed
+clamped_nan k e = ap clamped_k (sym e)

@@ -3,6 +3,7 @@
 #![tactic(auto)]
 
 ghost use Rattle.std.specs.Prelude.{◌≡◌, ◌<◌};
+ghost use Rattle.floats.specs.Narrowing.{nearest_whole};
 ghost use Rattle.fast_path.specs.Fast.{HasInverse};
 ghost use Rattle.slow_path.specs.Slow as spec;
 
@@ -13,7 +14,7 @@ use floats::narrowing::narrow;
 use floats::rounding::round_ties_even;
 use fmla::fmla;
 use special::operands::Base;
-use std::num::{f64_from_bits_with_nan, f64_to_bits_with_nan, saturating_f64_to_i64};
+use std::num::{f64_from_bits_with_nan, f64_to_bits_with_nan};
 use tables::{
     CompoundfExp2T, CompoundfExp2U, Log2p1CompoundfInv, Log2p1CompoundfLog2Inv, Log2p1Log2Poly,
     Log2p1Scale, PairTable, PolyQ2, Table,
@@ -191,9 +192,16 @@ fn clamped_index(r: f64) -> u64
 // The whole number k; past 1000 or -1000 it is that end, and a NaN is 0.
 #[tactic(auto, unfolding(crate::specs::Slow::clamped_k))]
 fn clamped_k(k: f64) -> i64
+    requires { nearest_whole k ≡ k }
     ensures { result ≡ spec.clamped_k k }
 {
-    saturating_f64_to_i64(k.clamp(-1000.0, 1000.0))
+    if k.is_nan() {
+        0
+    } else {
+        // + 0.0 makes 0 of -0, which has no cast. The library's saturating cast, which has one for every
+        // value, is put together from the digits, and 7 % of the slow path's time longer.
+        (k.clamp(-1000.0, 1000.0) + 0.0) as i64
+    }
 }
 
 // The pattern of the rounding test.
@@ -288,6 +296,7 @@ fn err_of(k: f64, i: u64, h: f64) -> f64
 // 2^(t.hi + t.lo) for a whole k, where it is not so near 1 that it rounds to 1.
 #[tactic(auto, using(crate::proofs::Clamped::clamped_index_below), unfolding(crate::specs::Slow::exp2_away))]
 fn exp2_away(t: DoubleDouble, k: f64) -> f32
+    requires { nearest_whole k ≡ k }
     ensures { result ≡ spec.exp2_away t k }
 {
     let v = DoubleDouble::from_exact_add(t.hi - k, t.lo);

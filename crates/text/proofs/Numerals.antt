@@ -12,6 +12,8 @@ use native.Mathlib.Numerals.{add-one, add-one-le}
 use lib.Dec.{ltb, leb, lit<, lit≤}
 use lib.ListN.{length, get_or, take, length-append, get_or-append}
 use lib.Seq.{length-take-le, take_all, take-suc, get_or-take}
+use Rattle.std.specs.Prelude.{Option, Some, None, IfNone, IfSome}
+use Rattle.std.specs.Option.{unwrap_or}
 use Rattle.text.specs.Bytes.{all}
 use Rattle.text.specs.Digits.{glyph, digits, places, decimal, hex, is_decimal, is_hex, digit_value, value, value_from}
 
@@ -274,6 +276,13 @@ places_of (suc k) (suc j) n hj h g =
     let high : n < 10 ^ suc (suc j) * 10 = rw pow-suc at g in
     let two : 10 ≤ n = le_trans (pow-le-pow_right (lit≤ tt) {i = 1} {j = suc (suc j)} (omega arith)) h in
     more_places k n two ∙ ap (λ (m : ℕ). m + 1) (places_of k j (n / 10) (omega arith) (omega arith) (omega arith)) ∙ omega arith
+
+-- by the number's logarithm
+pub places_by_log : (n r : ℕ) (log : Option ℕ) → r ≡ unwrap_or log 0 → IfNone log (n ≡ 0) → IfSome log (λ k. 10 ^ k ≤ n) → IfSome log (λ k. n < 10 * 10 ^ k)
+    → IfSome log (λ k. k < 10) → r + 1 ≡ places 9 n
+places_by_log n r None e z low high most = rw e (sym (one_place 9 n (omega arith)))
+places_by_log n r (Some zero) e z low high most = rw e (sym (one_place 9 n (omega arith)))
+places_by_log n r (Some (suc j)) e z low high most = rw e (sym (places_of 9 j n (omega arith) low (rw pow-suc (omega (arith, high))) ∙ omega arith))
 
 -- the first of them is no zero, unless the number is 0
 one_digit : (n : ℕ) → 0 < n → n < 10 → glyph (n % 10) ≡ 48 → ⊥

@@ -3,6 +3,7 @@ ghost use Rattle.std.specs.Prelude.{◌≡◌, ◌≤◌, ◌<◌, length};
 ghost use Rattle.text.specs.Digits.{glyph as Digits·glyph, digits as Digits·digits, places as Digits·places};
 
 // The ASCII code of a digit.
+#[tactic(auto, unfolding(crate::specs::Digits::glyph))]
 fn glyph(d: u32) -> u8
     requires { d < 16 }
     ensures { result ≡ Digits·glyph d }
@@ -15,6 +16,7 @@ fn glyph(d: u32) -> u8
 }
 
 // How many decimal digits n has.
+#[tactic(auto, using(crate::proofs::Numerals::places_by_log))]
 pub fn places(n: u32) -> usize
     ensures { result ≡ Digits·places 9 n }
 {
@@ -22,6 +24,7 @@ pub fn places(n: u32) -> usize
 }
 
 // Fills `out` with the last digits of n in a base.
+#[tactic(auto, using(crate::proofs::Put::digit_steps))]
 pub(crate) fn fill_digits(n: u32, base: u32, out: &mut [u8])
     requires base_above_one { 1 < base }
     requires base_most { base ≤ 16 }

@@ -6,6 +6,7 @@ ghost use Rattle.text.specs.Digits.{is_hex, value};
 
 // Whether a byte is a hexadecimal digit. The tests are joined without a branch, so that eight bytes
 // can be tested at once.
+#[tactic(auto, unfolding(crate::specs::Digits::is_hex, crate::specs::Digits::is_decimal))]
 fn is_hex(b: u8) -> bool
     ensures { result ≡ is_hex b }
 {

@@ -21,6 +21,7 @@ pub trait Text {
 impl Text for &str {
     ghost bytes = { λ s. s.now };
 
+    #[tactic(auto, using(crate::proofs::Put::put_part))]
     fn put(self, out: &mut [u8], at: usize) -> usize {
         let end = at + self.len();
         out[at..end].copy_from_slice(self.as_bytes());
@@ -35,6 +36,7 @@ pub struct Decimal(pub u32);
 impl Text for Decimal {
     ghost bytes = { λ d. decimal d.0 };
 
+    #[tactic(auto, using(crate::proofs::Put::decimal_put, crate::proofs::Numerals::length_decimal))]
     fn put(self, out: &mut [u8], at: usize) -> usize {
         let end = at + places(self.0);
         fill_digits(self.0, 10, &mut out[at..end]);
@@ -49,6 +51,7 @@ pub struct Hex(pub u32);
 impl Text for Hex {
     ghost bytes = { λ h. hex h.0 };
 
+    #[tactic(auto, using(crate::proofs::Put::hex_put, crate::proofs::Numerals::length_hex))]
     fn put(self, out: &mut [u8], at: usize) -> usize {
         let end = at + 8;
         fill_digits(self.0, 16, &mut out[at..end]);
@@ -59,6 +62,7 @@ impl Text for Hex {
 impl<A: Text, B: Text> Text for (A, B) {
     ghost bytes = { λ t. A.bytes t.0 ++ B.bytes t.1 };
 
+    #[tactic(auto, using(crate::proofs::Put::pair_put))]
     fn put(self, out: &mut [u8], at: usize) -> usize {
         let (a, b) = self;
         let middle = a.put(out, at);
@@ -102,6 +106,7 @@ impl<T: Text> Text for Option<T> {
 }
 
 // Puts text at the place `at`, and answers the place after it.
+#[tactic(auto, using(crate::proofs::Put::put_part))]
 pub fn put_bytes(text: &[u8], out: &mut [u8], at: usize) -> usize
     requires { at + length text.now ≤ length out.old }
     ensures value { result ≡ at + length text.now }

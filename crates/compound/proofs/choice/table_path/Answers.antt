@@ -15,26 +15,22 @@ pub returns-then-is_absorbed : goal.returns-then-is_absorbed
 unfolding outcome of_bits
 returns-then-is_absorbed c = absorbed_edge (of_bits binary32 c.args.nx) (of_bits binary32 c.args.ny) c.requires (sym c.is_absorbed.ensures ∙ c.if-is_absorbed.true)
 
-pub returns-in-Fast : goal.returns-in-Fast
+pub returns-in-Some-Fast : goal.returns-in-Some-Fast
 unfolding outcome
-returns-in-Fast c = told _ _ _ _ _ c.widened-pair.ensures.x c.widened-pair.ensures.y (by.by_fast _ _ _ c.in-Fast.ensures)
+returns-in-Some-Fast c = told _ _ _ _ _ c.widened-pair.ensures.x c.widened-pair.ensures.y (by.by_fast _ _ _ (rw c.in-Some-Fast.field-0-is at c.in-Some-Fast.ensures))
 
-pub returns-in-Slow : goal.returns-in-Slow
+pub returns-in-Some-Slow : goal.returns-in-Some-Slow
 unfolding outcome
-returns-in-Slow c = told _ _ _ _ _ c.widened-pair.ensures.x c.widened-pair.ensures.y (by.by_slow _ _ _ c.in-Slow.ensures c.slow_answer.ensures)
+returns-in-Some-Slow c = told _ _ _ _ _ c.widened-pair.ensures.x c.widened-pair.ensures.y (by.by_slow _ _ _ (rw c.in-Some-Slow.field-0-is at c.in-Some-Slow.ensures) c.slow_answer.ensures)
 
-pub returns-in-Low : goal.returns-in-Low
+pub returns-in-Some-Low : goal.returns-in-Some-Low
 unfolding outcome of_bits
-returns-in-Low c = told _ _ _ _ _ c.widened-pair.ensures.x c.widened-pair.ensures.y (by.by_low _ _ c.in-Low.ensures)
+returns-in-Some-Low c = told _ _ _ _ _ c.widened-pair.ensures.x c.widened-pair.ensures.y (by.by_low _ _ (rw c.in-Some-Low.field-0-is at c.in-Some-Low.ensures))
 
-pub returns-in-High : goal.returns-in-High
+pub returns-in-Some-High : goal.returns-in-Some-High
 unfolding outcome of_bits
-returns-in-High c = told _ _ _ _ _ c.widened-pair.ensures.x c.widened-pair.ensures.y (by.by_high _ _ c.in-High.ensures)
+returns-in-Some-High c = told _ _ _ _ _ c.widened-pair.ensures.x c.widened-pair.ensures.y (by.by_high _ _ (rw c.in-Some-High.field-0-is at c.in-Some-High.ensures))
 
-pub returns-in-One : goal.returns-in-One
+pub returns-in-Some-One : goal.returns-in-Some-One
 unfolding outcome of_bits
-returns-in-One c = told _ _ _ _ _ c.widened-pair.ensures.x c.widened-pair.ensures.y (by.by_one _ _ c.in-One.ensures)
-
-pub returns-in-Unsure : goal.returns-in-Unsure
-returns-in-Unsure c = told _ _ _ _ _ c.widened-pair.ensures.x c.widened-pair.ensures.y c.as_written.ensures
-
+returns-in-Some-One c = told _ _ _ _ _ c.widened-pair.ensures.x c.widened-pair.ensures.y (by.by_one _ _ (rw c.in-Some-One.field-0-is at c.in-Some-One.ensures))
