@@ -5,10 +5,9 @@ use Rattle.std.proofs.Math.Seq.{take_at}
 use Rattle.std.proofs.lemmas.Grind.{common_steps}
 use Rattle.std.specs.Prelude.{Result, Ok, Err, is_ok}
 use Rattle.answers.proofs.EveryAnswer.{claims}
-use Rattle.lines.specs.Format.{read_line}
+use Rattle.lines.specs.Format.{pair, read_line}
 use Rattle.replies.specs.Reply.{answer_to, reply_to}
 use Rattle.lines.proofs.BothWays.{both_ways}
-use Rattle.lines.specs.declared.Line.TheVariants.{Pair}
 use Rattle.state.specs.declared.State.{State}
 use Rattle.batch.specs.declared.Fed.{Fed}
 use Rattle.batch.specs.declared.Refused.{Refused}
@@ -179,7 +178,7 @@ each_call before c later ds =
     }
 
 -- each line that says d, x and y
-each_line : (l : List ℕ) (d x y : ℕ) → read_line l ≡ Pair d x y → Answered l d x y
+each_line : (l : List ℕ) (d x y : ℕ) → read_line l ≡ Ok (pair d x y) → Answered l d x y
 unfolding reply_to answer_to
 each_line l d x y e = record { line_is = (both_ways.nothing_else l d x y e).0; told_is = ap answer_to e; claims = claims x y }
 

@@ -4,9 +4,8 @@ use Rattle.std.specs.Float.{binary32}
 use Rattle.std.specs.Float.Ieee.{of_bits}
 use Rattle.compound.specs.Route.{compound}
 use Rattle.answers.specs.Claims.{Claims}
-use Rattle.lines.specs.Format.{line_of, read_line}
+use Rattle.lines.specs.Format.{pair, line_of, read_line}
 use Rattle.replies.specs.Reply.{answered, reply_to}
-use Rattle.lines.specs.declared.Line.TheVariants.{Pair}
 use Rattle.state.specs.declared.State.{State}
 use Rattle.batch.specs.declared.Fed.{Fed}
 use Rattle.batch.specs.declared.Refused.{Refused}
@@ -131,7 +130,7 @@ pub record Served (cs : List Call) : Type 0 where
   pub each_call : (before : List Call) (c : Call) (later : List Call) → cs ≡ before ++ c ∷ later → Obeyed before c
   -- "Each line not bad was answered as in 2. Where in such a line y is whole, [..] the answer is at least the nearest f32 to E × (1 - 2^-47) and at most [..]". Here it
   -- is said of every line that says d, x and y, those of the accepted pieces among them.
-  pub each_line : (l : List ℕ) (d x y : ℕ) → read_line l ≡ Pair d x y → Answered l d x y
+  pub each_line : (l : List ℕ) (d x y : ℕ) → read_line l ≡ Ok (pair d x y) → Answered l d x y
 
 -- "This holds for every list of feed calls from a fresh state, refused ones among them, each given the state that the one before returned or left."
 unfoldable pub Always : (State → List ℕ → List ℕ → Fed → List ℕ → Type 0) → Type 0

@@ -12,8 +12,8 @@ ghost use Rattle.batch.specs.Series.{Always, Possible};
 
 pub use piece::{MORE, MOST_LINES};
 use piece::{Taken, is_short, take_piece, too_many};
-use state::is_broken;
-pub use state::{OVER_LONG, State, Tail, Tallies, fresh};
+use state::Reader;
+pub use state::{OVER_LONG, State, Tail, Tallies};
 pub use totals::{TOTALS, write_totals};
 
 // Why feed takes nothing, with the numbers of the causes: it tries them in this order.
@@ -56,22 +56,20 @@ pub fn feed(state: State, piece: &[u8], out: &mut [u8]) -> Fed
 }
 
 // The work: takes the piece, unless there is a cause to refuse it.
-#[tactic(auto, using(state::proofs::Unbroken::tail_sound, state::proofs::Unbroken::adds_up), unfolding(crate::specs::Feed::verdict, piece::specs::Piece::added, text::specs::Bytes::put))]
+#[tactic(auto, unfolding(crate::specs::Feed::verdict, piece::specs::Piece::added, text::specs::Bytes::put))]
 fn try_take(state: State, piece: &[u8], out: &mut [u8]) -> Result<Taken, Refused>
     ensures { MatchResult result
         (λ taken. Did state piece.now out.old (record { state = taken.state; verdict = Ok taken.wrote }) out.new)
         (λ refused. Did state piece.now out.old (record { state = state; verdict = Err refused }) out.new) }
 {
-    if is_broken(state) {
-        return Err(Refused::Broken);
-    }
-    if too_many(state.lines, piece) {
+    let reader = Reader::of(state).ok_or(Refused::Broken)?;
+    if too_many(reader.lines(), piece) {
         return Err(Refused::TooManyLines);
     }
-    if is_short(state.tail, piece, out.len()) {
+    if is_short(reader.held(), piece, out.len()) {
         return Err(Refused::NoRoom);
     }
-    Ok(take_piece(state, piece, out))
+    Ok(take_piece(reader, piece, out))
 }
 
 // The number of a feed's answer: 5 to 7 for a refusal, 0 for an accepted feed.
@@ -88,7 +86,7 @@ pub fn feed_number(verdict: Result<usize, Refused>) -> u32
 pub fn close(state: State) -> Result<(), NotClosed>
     ensures { result ≡ closed state }
 {
-    if is_broken(state) {
+    if state.is_broken() {
         return Err(NotClosed::BrokenState);
     }
     if state.tail.count == 0 {

@@ -2,7 +2,7 @@
 // needs it; it is proved to show that demand 3 is enough for a caller.
 ghost use Rattle.batch.specs.Series.{InPieces};
 
-use crate::{Fed, feed, fresh};
+use crate::{Fed, State, feed};
 
 // Feeds an input from a fresh state, in pieces of at most `size` bytes (0 counts as 1), and writes the
 // answer lines one after another to the front of `out`. It ends with the first piece that is refused.
@@ -10,7 +10,7 @@ use crate::{Fed, feed, fresh};
 pub(crate) fn feed_in_pieces(input: &[u8], size: usize, out: &mut [u8]) -> Fed
     ensures { InPieces input.now out.old result out.new }
 {
-    let mut state = fresh();
+    let mut state = State::fresh();
     let mut at = 0;
     for piece in input.chunks(size.max(1)) {
         let fed = feed(state, piece, &mut out[at..]);

@@ -28,7 +28,7 @@ pub struct Handed {
 pub extern "C" fn fade_fresh() -> State
     ensures { result ≡ fresh }
 {
-    batch::fresh()
+    State::fresh()
 }
 
 // Takes a piece of input, and writes the answer lines of the lines whose line feed lies in it to the

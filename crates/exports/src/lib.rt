@@ -11,7 +11,7 @@ ghost use Rattle.compound.specs.Route.{compound};
 ghost use Rattle.exports.specs.Packed.{packed};
 
 use compound::f_compoundf;
-use floats::patterns::to_bits_f32;
+use std::num::f32_to_bits_with_nan;
 
 // (1 + x)^y for the patterns x and y of two f32: the route's number in the upper half, from 0 in the
 // order rule, whole, edge, fast, slow, and the pattern of the answer in the lower half, 7fc00000 for a
@@ -22,6 +22,6 @@ pub extern "C" fn fade_compoundf(x: u32, y: u32) -> u64
 {
     let answer = f_compoundf(x, y);
     let via = answer.route() as u64;
-    let value = to_bits_f32(answer.value()) as u64;
+    let value = f32_to_bits_with_nan(answer.value()) as u64;
     via * 0x1_0000_0000 + value
 }

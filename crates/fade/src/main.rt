@@ -54,7 +54,7 @@ impl Workspace {
         ensures { result.state ≡ fresh }
     {
         Workspace {
-            state: batch::fresh(),
+            state: State::fresh(),
             piece: [0; PIECE],
             out: [0; ANSWERS],
         }

@@ -3,24 +3,38 @@
 // and what must be written are made from the Rust (oracle/README.md).
 #![tactic(auto)]
 
+ghost use Rattle.std.specs.Prelude.{◌<◌};
+
 use std::io;
 use std::io::{ErrorKind, Read};
+use std::num::f32_to_bits_with_nan;
 
 // How many lines are read at most.
 const LINES: u32 = 100_000;
 
-// The pattern of eight hexadecimal digits; another byte counts as 0.
+// The value of a hexadecimal digit; another byte counts as 0. By hand, since the library's `to_digit`
+// takes capital letters too.
+fn digit(b: u8) -> u32
+    ensures { result < 16 }
+{
+    match b {
+        b'0'..=b'9' => u32::from(b - b'0'),
+        b'a'..=b'f' => u32::from(b - b'a' + 10),
+        _ => 0,
+    }
+}
+
+// The pattern of eight hexadecimal digits.
 fn pattern(digits: &[u8]) -> u32 {
-    let values = digits
+    digits
         .iter()
-        .map(|b| char::from(*b).to_digit(16).unwrap_or(0));
-    values.fold(0, |n, value| n % 0x1000_0000 * 16 + value)
+        .fold(0, |n, b| n % 0x1000_0000 * 16 + digit(*b))
 }
 
 // Writes the line again, with its answer.
 fn replay(rt: &impl Print, nx: u32, ny: u32) -> io::Result<()> {
     let answer = compound::f_compoundf(nx, ny);
-    let bits = floats::patterns::to_bits_f32(answer.value());
+    let bits = f32_to_bits_with_nan(answer.value());
     let via = answer.route().word();
     println!(rt; "{nx:08x} {ny:08x} {bits:08x} {via}")
 }

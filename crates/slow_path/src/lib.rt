@@ -195,7 +195,7 @@ fn clamped_k(k: f64) -> i64
     requires { nearest_whole k ≡ k }
     ensures { result ≡ spec.clamped_k k }
 {
-    if k != k {
+    if k.is_nan() {
         0
     } else {
         // + 0.0 makes 0 of -0, which has no cast. The library's saturating cast, which has one for every

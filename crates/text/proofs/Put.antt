@@ -1,16 +1,18 @@
 -- Laws of `put`, text put at a place of a list: the length stays, text after text is one text, and a stored byte is text of one byte. Assumes nothing.
 use mathlib.Core.Path.{◌≡◌, refl, sym, ap, ◌∙◌}
-use Prim.Native.Nat.{ℕ, suc, ◌+◌, ◌-◌, ◌≤◌, ◌<◌}
+use Prim.Native.Nat.{ℕ, zero, suc, ◌+◌, ◌-◌, ◌/◌, ◌%◌, ◌≤◌, ◌<◌}
+use native.Mathlib.Numerals.{add-one}
 use native.Mathlib.Nat.{add-zero}
 use native.Mathlib.Omega.{arith}
 use mathlib.Core.List.{List, [], ◌∷◌, ◌++◌, append_assoc, append-nil}
-use lib.ListN.{length, take, drop, set, length-append, length-drop, length-take, take-append-drop}
-use lib.Seq.{length-take-le, set_split, take_at, drop_at, drop-drop}
+use lib.ListN.{length, get_or, take, drop, set, length-append, length-drop, length-take, length-set, take-append-drop, drop_of_length-le}
+use lib.Seq.{length-take-le, set_split, take_at, drop_at, drop-drop, drop-cons}
 use borrow.Rule.Slice.PartMut.{put_mid}
 use mathlib.Core.Bool.{Bool, true, false, not, cond}
 use Rattle.std.specs.Bool.{then_some}
+use Rattle.std.specs.List.{flat_map}
 use Rattle.text.specs.Bytes.{put, if_some}
-use Rattle.text.specs.Digits.{digits, places, decimal, hex}
+use Rattle.text.specs.Digits.{glyph, digits, places, decimal, hex}
 use Rattle.text.proofs.Numerals.{length_digits, length_decimal, length_hex}
 
 -- what stands before the text, and the text, as far as its end
@@ -57,6 +59,27 @@ pub pair_put : (out middle last : List ℕ) (at next : ℕ) (a b : List ℕ) →
     → middle ≡ put out at a → next ≡ at + length a → last ≡ put middle next b → last ≡ put out at (a ++ b)
 pair_put out middle last at next a b h e f g = g ∙ rw (e, f) (put_put out at a b (omega (arith, length-append a b)))
 
+-- a list of texts: those from the place i on, and the list after the one there
+module _ {A : Type 0} (text : A → List ℕ) (all : List A) (i : ℕ) where
+  ahead : (x : A) → i < length all → text (get_or all i x) ++ flat_map text (drop (i + 1) all) ≡ flat_map text (drop i all)
+  ahead x h = rw (drop-cons all i x h, add-one) refl
+
+  pub next_place : (x : A) (at next n : ℕ) → i < length all → at + length (flat_map text (drop i all)) ≡ n
+      → next ≡ at + length (text (get_or all i x)) → next + length (flat_map text (drop (i + 1) all)) ≡ n
+  next_place x at next n h e f =
+      omega (arith, ap length (ahead x h), length-append (text (get_or all i x)) (flat_map text (drop (i + 1) all)))
+
+  pub next_put : (x : A) (out after l : List ℕ) (at next : ℕ) → i < length all → at + length (flat_map text (drop i all)) ≤ length out
+      → put out at (flat_map text (drop i all)) ≡ l → after ≡ put out at (text (get_or all i x)) → next ≡ at + length (text (get_or all i x))
+      → put after next (flat_map text (drop (i + 1) all)) ≡ l
+  next_put x out after l at next h m e f g =
+      pair_put out after (put after next (flat_map text (drop (i + 1) all))) at next (text (get_or all i x)) (flat_map text (drop (i + 1) all))
+      (omega (arith, ap length (ahead x h))) f g refl
+      ∙ ap (put out at) (ahead x h) ∙ e
+
+  pub none_next : (out l : List ℕ) (at : ℕ) → length all ≤ i → put out at (flat_map text (drop i all)) ≡ l → out ≡ l
+  none_next out l at h e = sym (put_nothing out at) ∙ ap (λ (k : List A). put out at (flat_map text k)) (sym (drop_of_length-le all {i = i} h)) ∙ e
+
 -- a part of a list that is a text, from a place to the end of the text there
 pub put_part : (out : List ℕ) (at end : ℕ) (part text : List ℕ) → part ≡ text → end ≡ at + length text → put_mid at (end - at) out part ≡ put out at text
 unfolding put
@@ -92,3 +115,19 @@ pub by_test : {A : Type 0} (bytes : A → List ℕ) (t : Bool) (text : A) → if
 unfolding if_some
 by_test bytes true text = refl
 by_test bytes false text = refl
+
+-- digits filled in from the last to the first: those not yet filled, and the filled ones
+pub digit_filled : (base n i b m : ℕ) (out : List ℕ) → 0 < i → i ≤ length out → b ≡ glyph (n % base) → digits base i n ++ drop i out ≡ digits base (length out) m
+    → digits base (i - 1) (n / base) ++ drop (i - 1) (set out (i - 1) b) ≡ digits base (length (set out (i - 1) b)) m
+unfolding digits
+digit_filled base n zero b m out h g e f = absurd (omega arith)
+digit_filled base n (suc i) b m out h g e f =
+    let k : suc i - 1 ≡ i = omega arith in
+    rw (k, length-set, drop_set out i b (omega arith), e) (sym (append_assoc (digits base i (n / base)) (glyph (n % base) ∷ []) (drop (suc i) out)) ∙ f)
+
+pub all_filled : (base n i k m : ℕ) (out : List ℕ) → i ≤ 0 → digits base i n ++ drop i out ≡ digits base (length out) m → length out ≡ k → out ≡ digits base k m
+unfolding digits
+all_filled base n zero k m out h e f = rw (← f) e
+all_filled base n (suc i) k m out h e f = absurd (omega arith)
+
+pub ruleset digit_steps = (digit_filled, all_filled)
