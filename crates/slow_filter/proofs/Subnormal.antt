@@ -1,7 +1,7 @@
 -- Where the plain value is clear of every midpoint of two subnormal f32s, the slow path's narrows to what the plain one rounds to (`subnormal`): its pattern is between the two that are
 -- tested, so that its sum with 2^-97 is between two that are the same. Assumes nothing.
 use Rattle.std.proofs.Common.{Some}
-use mathlib.Core.Bool.{not}
+use mathlib.Core.Bool.{Bool, not}
 use mathlib.Core.Path.{◌≡◌, sym, ap, ◌∙◌, subst}
 use Prim.Native.Nat.{ℕ, suc, ◌+◌, ◌-◌, ◌*◌, ◌%◌, ◌^◌, ◌≤◌, ◌<◌}
 use native.Mathlib.Nat.{le_trans, le_of_eq, le_antisymm, lt_of_lt_of_le}
