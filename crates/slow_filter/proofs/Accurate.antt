@@ -1,11 +1,6 @@
 -- The accurate logarithm beside the plain one for |x| from 2^-29 up (`kept_own`); and times y beside a plain k times y, t': where |t'| is at most 150, hi is 2^-29 from t' at most, and lo at most 2^-30 in
 -- size (`times_beside`); where |t'| is at most 2^-16, hi is 2^-52 from t' at most, and lo at most 2^-53 in size (`times_fine`). Assumes nothing.
-use mathlib.Core.Path.{◌≡◌, refl, sym, ap, ◌∙◌}
-use mathlib.Core.Logic.{◌⊎◌, inl, inr}
-use Prim.Native.Nat.{ℕ, ◌+◌, ◌*◌, ◌/◌, ◌^◌, ◌≤◌, ◌<◌}
-use native.Mathlib.Nat.{le_trans, le_of_eq, mul_assoc, mul-le-mul_right}
-use native.Mathlib.Omega.{arith}
-use lib.Dec.{T, leb, leb→le, lit≤, lit<}
+use Rattle.std.proofs.Common.{◌≡◌, ℕ, ◌+◌, ◌*◌, ◌/◌, ◌^◌, ◌<◌, ◌≤◌, refl, sym, ap, ◌∙◌, ◌⊎◌, inl, inr, le_trans, le_of_eq, mul_assoc, mul-le-mul_right, arith, T, leb, leb→le, lit≤, lit<}
 use lib.Ieee.{Float, binary32, fits, le, lt}
 use lib.Ieee.Scale.{finite}
 use Rattle.floats.specs.Operations.{◌⊗◌}

@@ -1,8 +1,6 @@
 -- The polynomials of the power next to 1: for a z' of at most 2^-16 in size and a z that is 3 × 2^-53 from it, and a little, both are 1 and a term, w and w', and these are less than 2.09 × 2^-53
 -- from each other; and hi and lo of the slow path's are together 1 + w but for a little (`poly_near`). Terms of degree 4 and above count for less than 2^-64. Assumes nothing.
-use mathlib.Core.Path.{◌≡◌, refl, subst}
-use Prim.Native.Nat.{ℕ, ◌+◌, ◌*◌, ◌^◌, ◌<◌}
-use lib.Dec.{lit<}
+use Rattle.std.proofs.Common.{◌≡◌, ℕ, ◌+◌, ◌*◌, ◌^◌, ◌<◌, refl, subst, lit<}
 use lib.Ieee.{Float, fits, of_bits}
 use Rattle.floats.specs.Operations.{◌⊕◌, ◌⊗◌}
 use Rattle.double_double.specs.declared.DoubleDouble.{DoubleDouble}

@@ -1,10 +1,6 @@
 -- The polynomials of the power, side by side: where z and z' are 3/2 × 2^-29 from each other, and a little, and at most 1/64 in size, hi of the slow path's is less than 1.053 × 2^-29 from the
 -- plain one (`poly_beside`). Both are brought to Horner's form, in which the coefficients are compared one by one. Numbers are on the scale of 1, where 2^53 is 1. Assumes nothing.
-use mathlib.Core.Path.{◌≡◌, refl, subst}
-use mathlib.Core.Bool.{Bool, ◌&&◌}
-use Prim.Native.Nat.{ℕ, ◌+◌, ◌*◌, ◌^◌}
-use native.Mathlib.Omega.{arith}
-use lib.Dec.{T, leb, leb→le}
+use Rattle.std.proofs.Common.{◌≡◌, ℕ, ◌+◌, ◌*◌, ◌^◌, refl, subst, Bool, ◌&&◌, arith, T, leb, leb→le}
 use lib.Ieee.{Float, binary64, fits, of_bits}
 use Rattle.floats.specs.Operations.{◌⊕◌, ◌⊗◌}
 use Rattle.floats.proofs.Laws.Sums.{add_turned}

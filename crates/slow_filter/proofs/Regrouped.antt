@@ -1,10 +1,7 @@
 -- The same operations in another order, side by side, on the scale of 1: a sum of three terms (`sums_apart`), a product of three factors (`products_apart`), and a product with a sum beside the sum
 -- of the products (`spread_apart`). Each is off the exact value by its roundings. Assumes nothing.
-use mathlib.Core.Path.{◌≡◌, subst}
-use Prim.Native.Nat.{ℕ, ◌+◌, ◌*◌, ◌/◌, ◌^◌, ◌≤◌, ◌<◌}
-use native.Mathlib.Nat.{le_trans, le_of_eq, le_of_mul-le-mul_right, mul-le-mul, mul-le-mul_right, mul-le-mul_left, mul-mul-mul_comm, add-le-add}
-use native.Mathlib.Omega.{arith}
-use lib.Dec.{T, lit≤}
+use Rattle.std.proofs.Common.{◌≡◌, ℕ, ◌+◌, ◌*◌, ◌/◌, ◌^◌, ◌<◌, ◌≤◌, subst, le_trans, le_of_eq, le_of_mul-le-mul_right, mul-le-mul, mul-le-mul_right, mul-le-mul_left, add-le-add, arith, T, lit≤}
+use native.Mathlib.Nat.{mul-mul-mul_comm}
 use lib.Ieee.{Float}
 use Rattle.floats.specs.Operations.{◌⊕◌, ◌⊗◌}
 use Rattle.bounds.proofs.Values.{per_one, plus, less, mag}

@@ -1,12 +1,7 @@
 -- The accurate logarithm's polynomial beside the fast one: hi of `log2_poly2` is z.hi times a factor (`slow_is`), which for an s and a z at most 100 × 2^-53 from each other is
 -- 45000 × 2^-53 from the fast path's at most (`slow_beside`). Most of it is the term of degree 7, whose coefficient is that of degree 12. Numbers are on the scale of 1, where 2^53
 -- is 1. Assumes nothing.
-use mathlib.Core.Path.{◌≡◌, refl, ap₂, subst}
-use mathlib.Core.Bool.{Bool, true, false, ◌&&◌}
-use Prim.Native.Nat.{ℕ, ◌+◌, ◌*◌, ◌^◌}
-use native.Mathlib.Nat.{mul_comm}
-use lib.Dec.{T, leb, leb→le, lit<}
-use lib.IntN.{ℤ}
+use Rattle.std.proofs.Common.{◌≡◌, ℕ, ◌+◌, ◌*◌, ◌^◌, refl, ap₂, subst, Bool, true, false, ◌&&◌, mul_comm, T, leb, leb→le, lit<, ℤ}
 use lib.Ieee.{Float, fin, binary64, up, down, unlike, round, mul, of_bits}
 use lib.Ieee.Fits.{and_l, and_r}
 use Rattle.floats.specs.Operations.{◌⊕◌, ◌⊗◌}

@@ -1,9 +1,6 @@
 -- `from_exact_add` for a second term that is small beside the first: lo is one rounding at most and a little, and hi and lo together are the exact sum but for a little (`small_term`). With
 -- K and L for the sizes of the terms on a scale, a little is a 2^53th of L, and a few. The sum of such a pair is near that of the terms, or of near ones (`sums_near`). Assumes nothing.
-use Prim.Native.Nat.{ℕ, ◌+◌, ◌*◌, ◌/◌, ◌^◌, ◌≤◌}
-use native.Mathlib.Nat.{le_refl, le_trans, le_of_eq, add-le-add, mul-le-mul_right, mul_right_comm}
-use native.Mathlib.Omega.{arith}
-use lib.Dec.{T, leb, leb→le}
+use Rattle.std.proofs.Common.{ℕ, ◌+◌, ◌*◌, ◌/◌, ◌^◌, ◌≤◌, le_refl, le_trans, le_of_eq, add-le-add, mul-le-mul_right, mul_right_comm, arith, T, leb, leb→le}
 use lib.Ieee.{Float}
 use Rattle.floats.specs.Operations.{◌⊕◌, ◌⊖◌}
 use Rattle.double_double.specs.declared.DoubleDouble.{DoubleDouble}

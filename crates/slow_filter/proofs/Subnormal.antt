@@ -1,15 +1,7 @@
 -- Where the plain value is clear of every midpoint of two subnormal f32s, the slow path's narrows to what the plain one rounds to (`subnormal`): its pattern is between the two that are
 -- tested, so that its sum with 2^-97 is between two that are the same. Assumes nothing.
-use Rattle.std.proofs.Common.{Some}
-use mathlib.Core.Bool.{Bool, not}
-use mathlib.Core.Path.{◌≡◌, sym, ap, ◌∙◌, subst}
-use Prim.Native.Nat.{ℕ, suc, ◌+◌, ◌-◌, ◌*◌, ◌%◌, ◌^◌, ◌≤◌, ◌<◌}
-use native.Mathlib.Nat.{le_trans, le_of_eq, le_antisymm, lt_of_lt_of_le}
-use native.Mathlib.Omega.{arith}
-use borrow.Author.Tests.{eqb-true}
+use Rattle.std.proofs.Common.{◌≡◌, ℕ, suc, ◌+◌, ◌-◌, ◌*◌, ◌%◌, ◌^◌, ◌<◌, ◌≤◌, Some, Bool, not, sym, ap, ◌∙◌, subst, le_trans, le_of_eq, le_antisymm, lt_of_lt_of_le, arith, eqb-true, T, eqb, lit≤, lit<, ℤ, pos, negsuc}
 use Rattle.std.proofs.lemmas.Option.{cond_some}
-use lib.Dec.{T, eqb, lit≤, lit<}
-use lib.IntN.{ℤ, pos, negsuc}
 use lib.Ieee.{Float, binary32, binary64, is_nan, nan_bits, of_bits}
 use lib.Ieee.Bits.{nan_bits_is, of_bits-fits, of_bits-to_bits}
 use Rattle.floats.specs.Operations.{f64}

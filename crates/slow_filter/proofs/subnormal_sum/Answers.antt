@@ -1,5 +1,5 @@
 -- `subnormal_sum` meets its contract: both patterns are those of numbers, and their sum is one. Assumes nothing.
-use Rattle.std.proofs.Common.{ℕ, ◌*◌, ◌%◌, ◌^◌, ◌≤◌, ◌<◌, lt_of_lt_of_le, lit≤, arith}
+use Rattle.std.proofs.Common.{ℕ, ◌*◌, ◌%◌, ◌^◌, ◌<◌, ◌≤◌, lt_of_lt_of_le, lit≤, arith}
 use Rattle.std.proofs.lemmas.Float.{not_nan_f64_bits}
 use lib.Ieee.{binary64}
 use Rattle.floats.proofs.Laws.Magnitude.{below_infinity}
