@@ -16,7 +16,7 @@ abbrev pub sums_k : ℕ → ℕ → ℕ → ℕ
 sums_k K L M = (sum_k K L + M) / 2 ^ 53 + 1 + ((K + L) / 2 ^ 53 + 1) + ((K + sum_k L M) / 2 ^ 53 + 1) + ((L + M) / 2 ^ 53 + 1)
 
 -- the two sides of a bound the other way round
-turned_sides : (p n q m c : ℕ) → m + p ≤ q + n + c → p + m ≤ n + q + c
+pub turned_sides : (p n q m c : ℕ) → m + p ≤ q + n + c → p + m ≤ n + q + c
 turned_sides p n q m c h = omega arith
 
 pub sums_apart : {K L M : ℕ} {x y z : Float} → Bound S K x → Bound S L y → Bound S M z → T (ok (K + L)) → T (ok (sum_k K L + M)) → T (ok (L + M)) → T (ok (K + sum_k L M)) → Apart S (sums_k K L M) (x ⊕ y ⊕ z) (x ⊕ (y ⊕ z))

@@ -40,10 +40,11 @@ unfolding log2_poly2 next_log2 with_term higher quick_mult quick_mult_f64 from_e
 slow_is z = refl
 
 -- ---- the coefficients beside the fast path's
-abbrev apart : ℕ → Float → Float → Bool
+-- two that are known are apart by computing
+abbrev pub apart : ℕ → Float → Float → Bool
 apart K x y = leb (plus x + less y) (less x + plus y + K * 2 ^ 1021) && leb (plus y + less x) (less y + plus x + K * 2 ^ 1021)
 
-tested_apart : (K : ℕ) (x y : Float) → T (apart K x y) → Apart S K x y
+pub tested_apart : (K : ℕ) (x y : Float) → T (apart K x y) → Apart S K x y
 unfolding S
 tested_apart K x y t = record {
   over = leb→le (plus x + less y) (less x + plus y + K * 2 ^ 1021) (and_l (leb (plus x + less y) (less x + plus y + K * 2 ^ 1021)) (leb (plus y + less x) (less y + plus x + K * 2 ^ 1021)) t);
