@@ -8,7 +8,7 @@ use Rattle.floats.specs.Narrowing.{nearest_whole}
 use Rattle.floats.specs.OnBits.{absolute}
 use Rattle.double_double.specs.declared.DoubleDouble.{DoubleDouble}
 use Rattle.double_double.specs.DoubleDouble.{from_exact_add, quick_mult_f64}
-use Rattle.compound.specs.Answer.{slow}
+use Rattle.compound.specs.declared.Route.TheVariants.{Slow as slow}
 use Rattle.special.specs.Special.{is_rule}
 use Rattle.fast_path.specs.Fast.{compoundf_log2p1_fast, power_place}
 use Rattle.slow_path.specs.Slow.{compoundf_log2p1_accurate}

@@ -1,16 +1,15 @@
 -- The mission's demand 3, and document 01's paragraphs on it: what every list of feed calls comes to. The sentences stand above what says them.
-use Rattle.std.specs.Prelude.{ℕ, ◌+◌, ◌≡◌, Bool, true, false, not, cond, List, [], ◌∷◌, ◌++◌, map, eqb, ltb, length, take, drop}
+use Rattle.std.specs.Prelude.{ℕ, ◌+◌, ◌≡◌, Result, Ok, Err, Bool, true, false, not, cond, List, [], ◌∷◌, ◌++◌, map, eqb, ltb, length, take, drop}
 use Rattle.std.specs.Float.{binary32}
 use Rattle.std.specs.Float.Ieee.{of_bits}
 use Rattle.compound.specs.Route.{compound}
 use Rattle.answers.specs.Claims.{Claims}
-use Rattle.lines.specs.Format.{line_of, read_line}
+use Rattle.lines.specs.Format.{pair, line_of, read_line}
 use Rattle.replies.specs.Reply.{answered, reply_to}
-use Rattle.lines.specs.declared.Line.TheVariants.{Pair}
 use Rattle.state.specs.declared.State.{State}
 use Rattle.batch.specs.declared.Fed.{Fed}
-use Rattle.batch.specs.declared.Verdict.{Verdict}
-use Rattle.batch.specs.declared.Verdict.TheVariants.{Accepted, Broken, TooManyLines, NoRoom}
+use Rattle.batch.specs.declared.Refused.{Refused}
+use Rattle.batch.specs.declared.Refused.TheVariants.{Broken, TooManyLines, NoRoom}
 use Rattle.scan.specs.Complete.{lines, rest, feeds}
 use Rattle.piece.specs.Counts.{counts}
 use Rattle.state.specs.Holding.{hold, fresh}
@@ -36,11 +35,11 @@ state_of s [] = s
 state_of s (c ∷ cs) = state_of c.returned.state cs
 
 -- "A piece is accepted when its call returns none of 5 to 7."
-unfoldable pub is_accepted : Call → Bool
+abbrev pub is_accepted : Call → Bool
 is_accepted c = eqb (Feed.number c.returned.verdict) 0
 
 -- an answer with one of 5 to 7
-unfoldable pub is_refused : Verdict → Bool
+abbrev pub is_refused : Result ℕ Refused → Bool
 is_refused v = not (eqb (Feed.number v) 0)
 
 -- "the joined accepted pieces"
@@ -49,14 +48,12 @@ accepted [] = []
 accepted (c ∷ cs) = cond (is_accepted c) c.piece [] ++ accepted cs
 
 -- how many bytes a call says that it wrote
-unfoldable pub said : Verdict → ℕ
-said (Accepted n) = n
-said Broken = 0
-said TooManyLines = 0
-said NoRoom = 0
+abbrev pub said : Result ℕ Refused → ℕ
+said (Ok n) = n
+said (Err e) = 0
 
 -- "the bytes it wrote are that many from the front of its output, as they stand when it returns. A refused one wrote none."
-unfoldable pub wrote : Call → List ℕ
+abbrev pub wrote : Call → List ℕ
 wrote c = take (said c.returned.verdict) c.out_after
 
 -- "the bytes written, joined"
@@ -71,20 +68,18 @@ adds t p = drop (length (lines t)) (lines (t ++ p))
 -- What a call returns, "from the pieces and output lengths alone": t are the accepted pieces before it. "It is refused with 6 exactly when the line feeds of the
 -- accepted pieces before it and of its own piece are together over 4,294,967,295. It is refused with 7 exactly when that isn't so and its output is shorter than the
 -- answer lines of the lines it would add. In such a list 5 never comes. An accepted call says the length of the answer lines of the lines it adds".
-unfoldable pub due : List ℕ → List ℕ → ℕ → Verdict
+unfoldable pub due : List ℕ → List ℕ → ℕ → Result ℕ Refused
 due t p room =
-    cond (ltb most_lines (feeds t + feeds p)) TooManyLines
-    (cond (ltb room (length (answer_lines (adds t p)))) NoRoom (Accepted (length (answer_lines (adds t p)))))
+    cond (ltb most_lines (feeds t + feeds p)) (Err TooManyLines)
+    (cond (ltb room (length (answer_lines (adds t p)))) (Err NoRoom) (Ok (length (answer_lines (adds t p)))))
 
 -- what is taken of a piece, by what its call returns
-unfoldable pub takes : Verdict → List ℕ → List ℕ
-takes (Accepted n) p = p
-takes Broken p = []
-takes TooManyLines p = []
-takes NoRoom p = []
+abbrev pub takes : Result ℕ Refused → List ℕ → List ℕ
+takes (Ok n) p = p
+takes (Err e) p = []
 
 -- the same for a list of calls, of which it is told the pieces and the output lengths and nothing else; t are the accepted pieces before them
-unfoldable pub due_all : List ℕ → List (List ℕ × ℕ) → List Verdict
+unfoldable pub due_all : List ℕ → List (List ℕ × ℕ) → List (Result ℕ Refused)
 due_all t [] = []
 due_all t ((p, room) ∷ asks) = due t p room ∷ due_all (t ++ takes (due t p room) p) asks
 
@@ -92,7 +87,7 @@ due_all t ((p, room) ∷ asks) = due t p room ∷ due_all (t ++ takes (due t p r
 abbrev pub asked : List Call → List (List ℕ × ℕ)
 asked cs = map (λ (c : Call). (c.piece, length c.out)) cs
 
-abbrev pub verdicts : List Call → List Verdict
+abbrev pub verdicts : List Call → List (Result ℕ Refused)
 verdicts cs = map (λ (c : Call). c.returned.verdict) cs
 
 -- A line that says d, x and y. "An answer line with `r=` has the D of its line, the answer for its x and y, and the route that these take", "as in 2": the answer is the
@@ -110,7 +105,7 @@ pub record Obeyed (before : List Call) (c : Call) : Type 0 where
       Feed.number c.returned.verdict
       ≡ cond (ltb most_lines (feeds (accepted before) + feeds c.piece)) 6 (cond (ltb (length c.out) (length (answer_lines (adds (accepted before) c.piece)))) 7 0)
   -- "In such a list 5 never comes."
-  pub never_five : c.returned.verdict ≡ Broken → ⊥
+  pub never_five : c.returned.verdict ≡ Err Broken → ⊥
   -- demand 1: "with state and lent bytes untouched"
   pub refused_leaves : is_accepted c ≡ false → (c.returned.state ≡ state_of fresh before) × (c.out_after ≡ c.out)
   -- the answer lines of the lines that it adds; "A refused one wrote none."
@@ -135,7 +130,7 @@ pub record Served (cs : List Call) : Type 0 where
   pub each_call : (before : List Call) (c : Call) (later : List Call) → cs ≡ before ++ c ∷ later → Obeyed before c
   -- "Each line not bad was answered as in 2. Where in such a line y is whole, [..] the answer is at least the nearest f32 to E × (1 - 2^-47) and at most [..]". Here it
   -- is said of every line that says d, x and y, those of the accepted pieces among them.
-  pub each_line : (l : List ℕ) (d x y : ℕ) → read_line l ≡ Pair d x y → Answered l d x y
+  pub each_line : (l : List ℕ) (d x y : ℕ) → read_line l ≡ Ok (pair d x y) → Answered l d x y
 
 -- "This holds for every list of feed calls from a fresh state, refused ones among them, each given the state that the one before returned or left."
 unfoldable pub Always : (State → List ℕ → List ℕ → Fed → List ℕ → Type 0) → Type 0
@@ -151,9 +146,9 @@ pub record InPieces (input out : List ℕ) (r : Fed) (out' : List ℕ) : Type 0 
   pub taken : ℕ
   pub written : ℕ
   -- for what was taken, the state and the output are those of feeding it whole, wherever it was cut
-  pub as_whole : Feed.Did fresh (take taken input) out (record { state = r.state; verdict = Accepted written }) out'
+  pub as_whole : Feed.Did fresh (take taken input) out (record { state = r.state; verdict = Ok written }) out'
   -- where no piece was refused, all was taken
-  pub if_accepted : (n : ℕ) → r.verdict ≡ Accepted n → (take taken input ≡ input) × (written ≡ n)
+  pub if_accepted : (n : ℕ) → r.verdict ≡ Ok n → (take taken input ≡ input) × (written ≡ n)
   -- where one was, the input fed whole would be refused too
   pub if_refused : is_refused r.verdict ≡ true → is_refused (Feed.verdict fresh input (length out)) ≡ true
-  pub never_broken : r.verdict ≡ Broken → ⊥
+  pub never_broken : r.verdict ≡ Err Broken → ⊥

@@ -6,38 +6,36 @@
 
 mod pieces;
 
-ghost use Rattle.std.specs.Prelude.{◌≡◌};
+ghost use Rattle.std.specs.Prelude.{◌≡◌, MatchResult};
 ghost use Rattle.batch.specs.Feed.{Did, number, closed, close_number};
 ghost use Rattle.batch.specs.Series.{Always, Possible};
 
 pub use piece::{MORE, MOST_LINES};
-use piece::{is_short, take_piece, too_many};
-use state::is_broken;
-pub use state::{OVER_LONG, State, Tail, Tallies, fresh};
+use piece::{Taken, is_short, take_piece, too_many};
+use state::Reader;
+pub use state::{OVER_LONG, State, Tail, Tallies};
 pub use totals::{TOTALS, write_totals};
 
-// What feed answers: how many bytes it wrote, or why it took nothing, 5 to 7 in this order.
-#[derive(Clone, Copy)]
-pub enum Verdict {
-    Accepted(usize),
-    Broken,
-    TooManyLines,
-    NoRoom,
+// Why feed takes nothing, with the numbers of the causes: it tries them in this order.
+#[derive(Clone, Copy, Debug, PartialEq, Eq)]
+pub enum Refused {
+    Broken = 5,
+    TooManyLines = 6,
+    NoRoom = 7,
 }
 
-// The state after a feed, and its answer.
+// The state after a feed, and its answer: how many bytes it wrote, or why it took nothing.
 #[derive(Clone, Copy)]
 pub struct Fed {
     pub state: State,
-    pub verdict: Verdict,
+    pub verdict: Result<usize, Refused>,
 }
 
-// What close answers: the input ended with a whole line, or why not, 5 and 8 in this order.
-#[derive(Clone, Copy)]
-pub enum Closed {
-    Finished,
-    BrokenState,
-    Unfinished,
+// Why the input may not end, with the numbers of the causes: close tries them in this order.
+#[derive(Clone, Copy, Debug, PartialEq, Eq)]
+pub enum NotClosed {
+    BrokenState = 5,
+    Unfinished = 8,
 }
 
 // Takes a piece of input, and writes the answer lines of the lines whose line feed lies in it to the
@@ -45,68 +43,66 @@ pub enum Closed {
 pub fn feed(state: State, piece: &[u8], out: &mut [u8]) -> Fed
     ensures { Did state piece.now out.old result out.new }
 {
-    if is_broken(state) {
-        return Fed {
+    match try_take(state, piece, out) {
+        Ok(taken) => Fed {
+            state: taken.state,
+            verdict: Ok(taken.wrote),
+        },
+        Err(refused) => Fed {
             state,
-            verdict: Verdict::Broken,
-        };
-    }
-    if too_many(state.lines, piece) {
-        return Fed {
-            state,
-            verdict: Verdict::TooManyLines,
-        };
-    }
-    let tail = state.tail;
-    if is_short(tail, piece, out.len()) {
-        return Fed {
-            state,
-            verdict: Verdict::NoRoom,
-        };
-    }
-    let taken = take_piece(state, piece, out);
-    let after = taken.state;
-    Fed {
-        state: after,
-        verdict: Verdict::Accepted(taken.wrote),
+            verdict: Err(refused),
+        },
     }
 }
 
+// The work: takes the piece, unless there is a cause to refuse it.
+#[tactic(auto, unfolding(crate::specs::Feed::verdict, piece::specs::Piece::added, text::specs::Bytes::put))]
+fn try_take(state: State, piece: &[u8], out: &mut [u8]) -> Result<Taken, Refused>
+    ensures { MatchResult result
+        (λ taken. Did state piece.now out.old (record { state = taken.state; verdict = Ok taken.wrote }) out.new)
+        (λ refused. Did state piece.now out.old (record { state = state; verdict = Err refused }) out.new) }
+{
+    let reader = Reader::of(state).ok_or(Refused::Broken)?;
+    if too_many(reader.lines(), piece) {
+        return Err(Refused::TooManyLines);
+    }
+    if is_short(reader.held(), piece, out.len()) {
+        return Err(Refused::NoRoom);
+    }
+    Ok(take_piece(reader, piece, out))
+}
+
 // The number of a feed's answer: 5 to 7 for a refusal, 0 for an accepted feed.
-pub fn feed_number(verdict: Verdict) -> u32
+pub fn feed_number(verdict: Result<usize, Refused>) -> u32
     ensures { result ≡ number verdict }
 {
     match verdict {
-        Verdict::Accepted(_) => 0,
-        Verdict::Broken => 5,
-        Verdict::TooManyLines => 6,
-        Verdict::NoRoom => 7,
+        Ok(_) => 0,
+        Err(refused) => refused as u32,
     }
 }
 
 // Whether the input may end here. The state stays as it is.
-pub fn close(state: State) -> Closed
+pub fn close(state: State) -> Result<(), NotClosed>
     ensures { result ≡ closed state }
 {
-    if is_broken(state) {
-        return Closed::BrokenState;
+    if state.is_broken() {
+        return Err(NotClosed::BrokenState);
     }
-    let tail = state.tail;
-    if tail.count == 0 {
-        Closed::Finished
+    if state.tail.count == 0 {
+        Ok(())
     } else {
-        Closed::Unfinished
+        Err(NotClosed::Unfinished)
     }
 }
 
 // The number of a close's answer: 5 or 8 for a refusal, 0 for an accepted close.
-pub fn close_number(closed: Closed) -> u32
+pub fn close_number(closed: Result<(), NotClosed>) -> u32
     ensures { result ≡ close_number closed }
 {
     match closed {
-        Closed::Finished => 0,
-        Closed::BrokenState => 5,
-        Closed::Unfinished => 8,
+        Ok(()) => 0,
+        Err(cause) => cause as u32,
     }
 }
 

@@ -5,5 +5,5 @@ use Rattle.batch.specs.declared.Fed.{Fed}
 use Rattle.batch_exports.specs.declared.Handed as declared
 
 -- the state as it came back, the number of the refusal or 0, and the length written, which is 0 for a refusal
-unfoldable pub handed : Fed → declared.Handed
+abbrev pub handed : Fed → declared.Handed
 handed f = record { state = f.state; number = number f.verdict; wrote = said f.verdict }

@@ -8,11 +8,10 @@ ghost use Rattle.std.specs.Prelude.{◌≡◌, ◌++◌, length};
 ghost use Rattle.text.specs.Bytes.{put};
 ghost use Rattle.state.specs.Holding.{fresh};
 ghost use Rattle.batch.specs.Feed.{fed, verdict, out_after, closed, close_number};
-ghost use Rattle.batch.specs.Series.{said};
 ghost use Rattle.totals.specs.Totals.{totals, end_line};
 ghost use Rattle.batch_exports.specs.Handed.{handed};
 
-use batch::{State, TOTALS, Verdict};
+use batch::{State, TOTALS};
 
 // What a feed hands to Rust and C: the state, the number of a refusal or 0, and how many bytes were
 // written.
@@ -29,7 +28,7 @@ pub struct Handed {
 pub extern "C" fn fade_fresh() -> State
     ensures { result ≡ fresh }
 {
-    batch::fresh()
+    State::fresh()
 }
 
 // Takes a piece of input, and writes the answer lines of the lines whose line feed lies in it to the
@@ -40,24 +39,10 @@ pub extern "C" fn fade_feed(state: State, piece: &[u8], out: &mut [u8]) -> Hande
     ensures out_after { out.new ≡ out_after (verdict state piece.now (length out.old)) state piece.now out.old }
 {
     let fed = batch::feed(state, piece, out);
-    let after = fed.state;
-    let verdict = fed.verdict;
     Handed {
-        state: after,
-        number: batch::feed_number(verdict),
-        wrote: length_said(verdict),
-    }
-}
-
-// How many bytes a feed says that it wrote.
-fn length_said(verdict: Verdict) -> usize
-    ensures { result ≡ said verdict }
-{
-    match verdict {
-        Verdict::Accepted(n) => n,
-        Verdict::Broken => 0,
-        Verdict::TooManyLines => 0,
-        Verdict::NoRoom => 0,
+        state: fed.state,
+        number: batch::feed_number(fed.verdict),
+        wrote: fed.verdict.unwrap_or(0),
     }
 }
 

@@ -1,5 +1,4 @@
 -- The laws that the proofs of this crate and of those above it cite.
-pub mod Chosen
 pub mod Filtered
 pub mod Absorbed
 pub mod Examples

@@ -2,13 +2,11 @@
 use Rattle.std.specs.Prelude.{ℕ, List, [], ◌∷◌, Float}
 use Rattle.compound.specs.declared.Answer.{Answer}
 use Rattle.compound.specs.declared.Answer.TheVariants.{Rule, Whole, Edge, Fast, Slow}
-
--- the five routes
-pub data Via : Type 0 where
-  rule whole edge fast slow : Via
+use Rattle.compound.specs.declared.Route.{Route}
+use Rattle.compound.specs.declared.Route.TheVariants.{Rule as rule, Whole as whole, Edge as edge, Fast as fast, Slow as slow}
 
 -- "W is `rule`, `whole`, `edge`, `fast` or `slow`": the bytes of a route's name
-unfoldable pub word : Via → List ℕ
+unfoldable pub word : Route → List ℕ
 word rule = 114 ∷ 117 ∷ 108 ∷ 101 ∷ []
 word whole = 119 ∷ 104 ∷ 111 ∷ 108 ∷ 101 ∷ []
 word edge = 101 ∷ 100 ∷ 103 ∷ 101 ∷ []
@@ -17,7 +15,7 @@ word slow = 115 ∷ 108 ∷ 111 ∷ 119 ∷ []
 
 -- a route and the f32 that it carries
 pub record Outcome : Type 0 where
-  pub via : Via
+  pub via : Route
   pub value : Float
 
 -- what each case of the enum says: its route and its value

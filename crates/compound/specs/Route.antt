@@ -1,30 +1,20 @@
 -- Document 01, "Table path" and "One pair, one answer": the choice of the route, and the answer for every pair.
-use Rattle.std.specs.Prelude.{◌*◌, ◌%◌, ◌^◌, true, false, cond, not, T, leb, pos, Float}
-use Rattle.std.specs.Float.{fin, binary32, binary64}
-use Rattle.std.specs.Float.Ieee.{fits, to_bits, lt, le}
-use Rattle.std.specs.Float.Ieee.Scale.{finite}
+use Rattle.std.specs.Prelude.{◌*◌, ◌%◌, ◌^◌, true, false, cond, not, leb, pos, Option, Some, None, Float}
+use Rattle.std.specs.Float.{fin, binary64}
+use Rattle.std.specs.Float.Ieee.{to_bits, lt, le}
 use Rattle.floats.specs.Operations.{◌⊗◌}
 use Rattle.floats.specs.Narrowing.{narrowed}
-use Rattle.fast_path.specs.declared.Exp2.{Exp2}
-use Rattle.fast_path.specs.declared.Exp2.TheVariants.{Rounded, Failed}
-use Rattle.compound.specs.Answer.{Outcome, rule, whole, edge, fast, slow}
+use Rattle.compound.specs.declared.Route.TheVariants.{Rule as rule, Whole as whole, Edge as edge, Fast as fast, Slow as slow}
+use Rattle.compound.specs.Answer.{Outcome}
 use Rattle.special.specs.Special as Special
 use Rattle.whole.specs.Whole as Whole
 use Rattle.fast_path.specs.Fast.{compoundf_log2p1_fast, exp2_fast}
 use Rattle.slow_path.specs.Slow.{compoundf_accurate}
 
--- what the functions of the table path ask of x and y, and what is so past the route `rule`: two f32s, both finite, x above -1
-pub record Tabled (x y : Float) : Type 0 where
-  pub x_fits : T (fits binary32 x)
-  pub x_finite : T (finite x)
-  pub x_above : T (lt Special.minus_one x)
-  pub y_fits : T (fits binary32 y)
-  pub y_finite : T (finite y)
-
 -- "the tests in `exp2_fast` decide between `fast` and `slow`"
-unfoldable pub decided : Float → Float → Exp2 → Outcome
-decided x y (Rounded v) = record { via = fast; value = narrowed v }
-decided x y Failed = record { via = slow; value = compoundf_accurate x y }
+unfoldable pub decided : Float → Float → Option Float → Outcome
+decided x y (Some v) = record { via = fast; value = narrowed v }
+decided x y None = record { via = slow; value = compoundf_accurate x y }
 
 -- "t <= -150 gives +0 and t >= 128 gives +infinity; a pattern of t, shifted left once, of at most 3e6715476ba97f14 gives 1. These are route
 -- `edge`." Here t >= 128 is `not (t < 128)`. The two differ for a NaN alone, and no pair has one: that is a part of the contract of `every_answer` in

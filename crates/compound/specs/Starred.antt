@@ -2,7 +2,9 @@
 use Rattle.std.specs.Prelude.{◌≡◌, List, [], ◌∷◌, map, ℕ}
 use Rattle.std.specs.Float.{binary32}
 use Rattle.std.specs.Float.Ieee.{of_bits}
-use Rattle.compound.specs.Answer.{Via, rule, whole, Outcome}
+use Rattle.compound.specs.declared.Route.{Route}
+use Rattle.compound.specs.declared.Route.TheVariants.{Rule as rule, Whole as whole}
+use Rattle.compound.specs.Answer.{Outcome}
 use Rattle.compound.specs.Route.{compound}
 
 -- a row of the document's table: the patterns of x, y and r, and the route
@@ -10,9 +12,9 @@ pub record Row : Type 0 where
   pub x : ℕ
   pub y : ℕ
   pub r : ℕ
-  pub via : Via
+  pub via : Route
 
-abbrev row : ℕ → ℕ → ℕ → Via → Row
+abbrev row : ℕ → ℕ → ℕ → Route → Row
 row x y r via = record { x = x; y = y; r = r; via = via }
 
 -- the starred rows, in the document's order

@@ -6,15 +6,41 @@
 ghost use Rattle.std.specs.Prelude.{◌≡◌};
 ghost use Rattle.std.specs.Float.{binary32};
 ghost use Rattle.std.specs.Float.Ieee.{of_bits};
-ghost use Rattle.compound.specs.Answer.{outcome};
+ghost use Rattle.compound.specs.Answer.{outcome, word};
 ghost use Rattle.compound.specs.Route as spec;
 ghost use Rattle.compound.specs.Starred.{StarredPairs};
 
-use crate::route::table_path;
+use crate::choice::table_path;
 use special::{as_compoundf_special, is_rule};
 use whole::{is_whole, whole};
 
-mod route;
+mod choice;
+
+// The way by which an answer is found.
+#[derive(Clone, Copy, PartialEq, Eq, Debug)]
+pub enum Route {
+    Rule,
+    Whole,
+    Edge,
+    Fast,
+    Slow,
+}
+
+impl Route {
+    // Its name.
+    #[tactic(auto, unfolding(crate::specs::Answer::word))]
+    pub fn word(self) -> &'static str
+        ensures { result.now ≡ word self }
+    {
+        match self {
+            Route::Rule => "rule",
+            Route::Whole => "whole",
+            Route::Edge => "edge",
+            Route::Fast => "fast",
+            Route::Slow => "slow",
+        }
+    }
+}
 
 // The answer: one of five routes, each carrying its f32.
 #[derive(Clone, Copy)]
@@ -26,7 +52,38 @@ pub enum Answer {
     Slow(f32),
 }
 
+impl Answer {
+    // The f32 that it carries.
+    #[tactic(auto, unfolding(crate::specs::Answer::outcome))]
+    pub fn value(self) -> f32
+        ensures { result ≡ (outcome self).value }
+    {
+        match self {
+            Answer::Rule(r)
+            | Answer::Whole(r)
+            | Answer::Edge(r)
+            | Answer::Fast(r)
+            | Answer::Slow(r) => r,
+        }
+    }
+
+    // Its route.
+    #[tactic(auto, unfolding(crate::specs::Answer::outcome))]
+    pub fn route(self) -> Route
+        ensures { result ≡ (outcome self).via }
+    {
+        match self {
+            Answer::Rule(_) => Route::Rule,
+            Answer::Whole(_) => Route::Whole,
+            Answer::Edge(_) => Route::Edge,
+            Answer::Fast(_) => Route::Fast,
+            Answer::Slow(_) => Route::Slow,
+        }
+    }
+}
+
 // (1 + x)^y, for the f32s x and y of the patterns nx and ny.
+#[tactic(auto, unfolding(crate::specs::Answer::outcome, crate::specs::Route::compound))]
 pub fn f_compoundf(nx: u32, ny: u32) -> Answer
     ensures { outcome result ≡ spec.compound (of_bits binary32 nx) (of_bits binary32 ny) }
 {

@@ -2,6 +2,7 @@
 // uses. A translation of the non-fma branch of `double_double.rs` and of `dd_fmla` in `common.rs`
 // of pxfm 0.1.30 (NOTICE); names and the order of the operations are the source's. Each contract
 // says that the result is the definition's in specs/DoubleDouble.antt, at every pair of f64.
+// `quick_mult` and `quick_mult_f64` differ in their operations, and so do the two exact adds.
 #![tactic(auto)]
 
 ghost use Rattle.std.specs.Prelude.{◌≡◌};
@@ -31,6 +32,7 @@ impl DoubleDouble {
 
     // a * b and its error, which is exact where nothing overflows or underflows; that it is exact is
     // not proved here.
+    #[tactic(auto, unfolding(crate::specs::DoubleDouble::from_exact_mult))]
     pub fn from_exact_mult(a: f64, b: f64) -> DoubleDouble
         ensures { result ≡ spec.from_exact_mult a b }
     {
@@ -46,6 +48,7 @@ impl DoubleDouble {
 
     // a + b and its error, which is exact for |a| >= |b| where nothing overflows; that it is exact is
     // not proved here.
+    #[tactic(auto, unfolding(crate::specs::DoubleDouble::from_exact_add))]
     pub fn from_exact_add(a: f64, b: f64) -> DoubleDouble
         ensures { result ≡ spec.from_exact_add a b }
     {
@@ -57,6 +60,7 @@ impl DoubleDouble {
 
     // a + b and its error, which is exact in whichever order of size where nothing overflows; that it
     // is exact is not proved here.
+    #[tactic(auto, unfolding(crate::specs::DoubleDouble::from_full_exact_add))]
     pub fn from_full_exact_add(a: f64, b: f64) -> DoubleDouble
         ensures { result ≡ spec.from_full_exact_add a b }
     {
@@ -70,6 +74,7 @@ impl DoubleDouble {
     }
 
     // The product of two double-doubles, without the product of the two lo.
+    #[tactic(auto, unfolding(crate::specs::DoubleDouble::quick_mult))]
     pub fn quick_mult(a: DoubleDouble, b: DoubleDouble) -> DoubleDouble
         ensures { result ≡ spec.quick_mult a b }
     {
@@ -82,6 +87,7 @@ impl DoubleDouble {
     }
 
     // The product of a double-double and an f64.
+    #[tactic(auto, unfolding(crate::specs::DoubleDouble::quick_mult_f64))]
     pub fn quick_mult_f64(a: DoubleDouble, b: f64) -> DoubleDouble
         ensures { result ≡ spec.quick_mult_f64 a b }
     {
@@ -92,6 +98,7 @@ impl DoubleDouble {
     }
 
     // The sum of a double-double and an f64, in whichever order of size.
+    #[tactic(auto, unfolding(crate::specs::DoubleDouble::full_add_f64))]
     pub fn full_add_f64(a: DoubleDouble, b: f64) -> DoubleDouble
         ensures { result ≡ spec.full_add_f64 a b }
     {
@@ -102,6 +109,7 @@ impl DoubleDouble {
 }
 
 // a * b + c by double-doubles, rounded at the end: what the source runs where there is no fma.
+#[tactic(auto, unfolding(crate::specs::DoubleDouble::dd_fmla))]
 pub fn dd_fmla(a: f64, b: f64, c: f64) -> f64
     ensures { result ≡ spec.dd_fmla a b c }
 {

@@ -4,13 +4,14 @@
 // this library, the compiler puts it into `fade_compoundf`.
 #![tactic(auto)]
 
-ghost use Rattle.std.specs.Prelude.{◌≡◌, ◌+◌, ◌*◌, ◌^◌, ◌<◌};
+ghost use Rattle.std.specs.Prelude.{◌≡◌};
 ghost use Rattle.std.specs.Float.{binary32};
-ghost use Rattle.std.specs.Float.Ieee.{to_bits, of_bits};
+ghost use Rattle.std.specs.Float.Ieee.{of_bits};
 ghost use Rattle.compound.specs.Route.{compound};
 ghost use Rattle.exports.specs.Packed.{packed};
 
-use compound::Answer;
+use compound::f_compoundf;
+use std::num::f32_to_bits_with_nan;
 
 // (1 + x)^y for the patterns x and y of two f32: the route's number in the upper half, from 0 in the
 // order rule, whole, edge, fast, slow, and the pattern of the answer in the lower half, 7fc00000 for a
@@ -19,20 +20,8 @@ use compound::Answer;
 pub extern "C" fn fade_compoundf(x: u32, y: u32) -> u64
     ensures { result ≡ packed (compound (of_bits binary32 x) (of_bits binary32 y)) }
 {
-    let answer = compound::f_compoundf(x, y);
-    match answer {
-        Answer::Rule(r) => halves(0, r),
-        Answer::Whole(r) => halves(1, r),
-        Answer::Edge(r) => halves(2, r),
-        Answer::Fast(r) => halves(3, r),
-        Answer::Slow(r) => halves(4, r),
-    }
-}
-
-// via in the upper half, and the pattern of r in the lower.
-fn halves(via: u64, r: f32) -> u64
-    requires { via < 5 }
-    ensures { result ≡ via * 2 ^ 32 + to_bits binary32 r }
-{
-    via * 0x1_0000_0000 + floats::patterns::to_bits_f32(r) as u64
+    let answer = f_compoundf(x, y);
+    let via = answer.route() as u64;
+    let value = f32_to_bits_with_nan(answer.value()) as u64;
+    via * 0x1_0000_0000 + value
 }

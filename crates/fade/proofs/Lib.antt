@@ -1,2 +1,3 @@
 -- The laws of `fade`.
+pub mod Feeds
 pub mod Turns

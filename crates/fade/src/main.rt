@@ -5,15 +5,14 @@
 // printing is defined in specs/Run.antt.
 #![tactic(auto)]
 
-ghost use Rattle.std.specs.Prelude.{◌≡◌, false, ◌+◌, ◌*◌, ◌≤◌, ◌↔◌, ℕ, Result, length, take};
+ghost use Rattle.std.specs.Prelude.{◌≡◌, false, ◌≤◌, ◌↔◌, ℕ, Result, IsOk, take};
 ghost use Rattle.std.specs.IoError.{error_kind};
 ghost use Rattle.std.specs.declared.io.Error.{Error};
-ghost use Rattle.piece.specs.Piece.{more};
+ghost use Rattle.state.specs.Holding.{fresh, broken};
 ghost use Rattle.batch.specs.Feed.{closed, close_number};
-ghost use Rattle.state.specs.Holding.{over_long, broken};
-ghost use Rattle.fade.specs.Run.{OrNothing, AfterFeed, Answered, AfterRead, Run, last_lines};
+ghost use Rattle.fade.specs.Run.{number, Answered, AfterRead, Run, last_lines};
 
-use batch::{Closed, MORE, OVER_LONG, State, TOTALS, Verdict};
+use batch::{MORE, NotClosed, OVER_LONG, Refused, State, TOTALS};
 use std::io;
 use std::io::{Cursor, ErrorKind, Read, Write};
 
@@ -27,39 +26,123 @@ const ANSWERS: usize = OVER_LONG as usize + PIECE + MORE * PIECE;
 // The most reads: no run comes to so many.
 const READS: u64 = 0xffff_ffff_ffff_ffff;
 
-// What comes after a read: the next, or the totals with the number of the end, 0 if there is none,
-// or nothing, after a failure that has been told.
+// How the reading ended, with the number that is printed after the totals; for 0 none is.
 #[derive(Clone, Copy)]
-enum Next {
-    Read,
-    Totals(u32),
-    Nothing,
+enum End {
+    Finished = 0,
+    TooManyLines = 6,
+    Unfinished = 8,
 }
 
-// The state after a piece, and what comes next.
+// A failure that has been told, or that nobody is left to be told of. Nothing is printed after it.
 #[derive(Clone, Copy)]
-struct Turn {
-    state: State,
-    next: Next,
-}
+struct Told;
 
-// A text to be printed: as many of the bytes as the count says.
+// What is kept from one read to the next: the state, the piece that was read and the answers to it.
 #[derive(Drop)]
-struct Text {
-    bytes: [u8; TOTALS],
-    count: usize,
+struct Workspace {
+    state: State,
+    piece: [u8; PIECE],
+    out: [u8; ANSWERS],
+    ghost not_broken: { broken state ≡ false },
 }
 
-// Stands where a refusal would come that never does: 0 is the number of none, so a call with any other
-// is proved to be one that is not made.
-fn never(number: u32) -> Next
-    requires { number ≡ 0 }
-{
-    Next::Nothing
+impl Workspace {
+    // Before the first read.
+    #[tactic(auto, using(batch::proofs::NotFive::fresh_unbroken))]
+    fn new() -> Workspace
+        ensures { result.state ≡ fresh }
+    {
+        Workspace {
+            state: State::fresh(),
+            piece: [0; PIECE],
+            out: [0; ANSWERS],
+        }
+    }
+
+    // Reads and answers up to the end of the input.
+    fn answer_input(
+        &mut self,
+        rt: &(impl Print + Eprint),
+        input: &mut impl Read,
+    ) -> Result<End, Told>
+        requires { self.old.state ≡ fresh }
+        ensures { Run self.new.state result }
+    {
+        for _ in 0..READS {
+            if let Some(end) = self.read_piece(rt, input)? {
+                return Ok(end);
+            }
+        }
+        Err(out_of_reads(rt))
+    }
+
+    // Reads a piece and answers it: for some answer of a read, this is the turn after that read.
+    fn read_piece(
+        &mut self,
+        rt: &(impl Print + Eprint),
+        input: &mut impl Read,
+    ) -> Result<Option<End>, Told>
+        ensures { (got : Result ℕ Error)
+            × AfterRead got self.old.state self.new.piece self.old.out result self.new.state self.new.out }
+    {
+        let got = input.read(&mut self.piece);
+        self.after_read(rt, got)
+    }
+
+    // After a read that answered `got`: answers what was read to the front of the piece.
+    fn after_read(
+        &mut self,
+        rt: &(impl Print + Eprint),
+        got: io::Result<usize>,
+    ) -> Result<Option<End>, Told>
+        ensures turn { AfterRead got self.old.state self.old.piece self.old.out result self.new.state self.new.out }
+        ensures piece_kept { self.new.piece ≡ self.old.piece }
+    {
+        match got {
+            Ok(0) => Ok(Some(self.at_end())),
+            Ok(n) => self.answer_piece(rt, n.min(PIECE)),
+            Err(error) => {
+                not_read(rt, error)?;
+                Ok(None)
+            }
+        }
+    }
+
+    // At the end of the input.
+    fn at_end(&self) -> End
+        ensures { number result ≡ close_number (closed self.now.state) }
+    {
+        match batch::close(self.state) {
+            Ok(()) => End::Finished,
+            Err(NotClosed::Unfinished) => End::Unfinished,
+            Err(NotClosed::BrokenState) => unreachable!(),
+        }
+    }
+
+    // Feeds the first `n` bytes of the piece and prints their answers; 6 ends the reading. 5 and 7 do not
+    // come, since the state is not broken and the output has room for the answers to any piece.
+    #[tactic(auto, using(crate::proofs::Feeds::feeds_go_on))]
+    fn answer_piece(&mut self, rt: &(impl Print + Eprint), n: usize) -> Result<Option<End>, Told>
+        requires { n ≤ PIECE }
+        ensures turn { Answered self.old.state (take n self.old.piece) self.old.out result self.new.state self.new.out }
+        ensures piece_kept { self.new.piece ≡ self.old.piece }
+    {
+        let fed = batch::feed(self.state, &self.piece[..n], &mut self.out);
+        self.state = fed.state;
+        match fed.verdict {
+            Ok(wrote) => {
+                print(rt, &self.out[..wrote])?;
+                Ok(None)
+            }
+            Err(Refused::TooManyLines) => Ok(Some(End::TooManyLines)),
+            Err(Refused::Broken | Refused::NoRoom) => unreachable!(),
+        }
+    }
 }
 
 // Writes a line to standard error: what failed, a colon and the error's words, without its number.
-fn fail(rt: &impl Eprint, what: &str, error: io::Error) {
+fn fail(rt: &impl Eprint, what: &str, error: io::Error) -> Told {
     let mut text = Cursor::new([0u8; 128]);
     let _ = write!(text, "{error}");
     let shown = str::from_utf8(text.get_ref()).unwrap_or("");
@@ -68,177 +151,60 @@ fn fail(rt: &impl Eprint, what: &str, error: io::Error) {
         None => shown.trim_end_matches('\0'),
     };
     let _ = eprintln!(rt; "{what}: {words}");
+    Told
 }
 
 // Tells that the reads have run out.
-fn out_of_reads(rt: &impl Eprint) -> Next
-    ensures { result ≡ Next.Nothing }
-{
+fn out_of_reads(rt: &impl Eprint) -> Told {
     let _ = eprintln!(rt; "fade: too many reads; no totals");
-    Next::Nothing
+    Told
 }
 
 // After a read that failed: one that a signal interrupted is tried again.
-fn not_read(rt: &impl Eprint, error: io::Error) -> Next
-    ensures next { OrNothing Next.Read result }
-    ensures again { result ≡ Next.Read ↔ error_kind error ≡ ErrorKind.Interrupted }
+fn not_read(rt: &impl Eprint, error: io::Error) -> Result<(), Told>
+    ensures { IsOk result ↔ error_kind error ≡ ErrorKind.Interrupted }
 {
     if error.kind() == ErrorKind::Interrupted {
-        return Next::Read;
+        return Ok(());
     }
-    fail(rt, "fade: standard input cannot be read; no totals", error);
-    Next::Nothing
+    let what = "fade: standard input cannot be read; no totals";
+    Err(fail(rt, what, error))
 }
 
-// Writes text to standard output; `next` comes after it, if it could be written. Where nobody reads the
-// output any more, nothing is told.
-fn print(rt: &(impl Print + Eprint), text: &[u8], next: Next) -> Next
-    ensures { OrNothing next result }
-{
+// Writes text to standard output. Where nobody reads the output any more, nothing is told.
+fn print(rt: &(impl Print + Eprint), text: &[u8]) -> Result<(), Told> {
     let Err(error) = rt.write_all(text) else {
-        return next;
+        return Ok(());
     };
-    if error.kind() != ErrorKind::BrokenPipe {
-        let what = "fade: standard output cannot be written; it is not whole";
-        fail(rt, what, error);
+    if error.kind() == ErrorKind::BrokenPipe {
+        return Err(Told);
     }
-    Next::Nothing
-}
-
-// Prints the answers to a piece that was accepted; 6 ends the reading. 5 and 7 do not come.
-fn print_answers(rt: &(impl Print + Eprint), verdict: Verdict, out: &[u8]) -> Next
-    requires fits { (n : ℕ) → verdict ≡ Verdict.Accepted n → n ≤ length out.now }
-    requires not_broken { verdict ≡ Verdict.Broken → ⊥ }
-    requires has_room { verdict ≡ Verdict.NoRoom → ⊥ }
-    ensures { AfterFeed verdict result }
-{
-    match verdict {
-        Verdict::Accepted(n) => print(rt, &out[..n], Next::Read),
-        Verdict::TooManyLines => Next::Totals(batch::feed_number(verdict)),
-        Verdict::Broken => never(5),
-        Verdict::NoRoom => never(7),
-    }
-}
-
-// At the end of the input.
-fn at_end(state: State) -> Next
-    requires { broken state ≡ false }
-    ensures { result ≡ Next.Totals (close_number (closed state)) }
-{
-    let closed = batch::close(state);
-    match closed {
-        Closed::Finished => Next::Totals(batch::close_number(closed)),
-        Closed::Unfinished => Next::Totals(batch::close_number(closed)),
-        Closed::BrokenState => never(5),
-    }
-}
-
-// Feeds a piece and prints its answers. The output has room for the answers to any piece of this
-// length.
-fn answer_piece(rt: &(impl Print + Eprint), state: State, piece: &[u8], out: &mut [u8]) -> Turn
-    requires not_broken { broken state ≡ false }
-    requires has_room { over_long + length piece.now + more * length piece.now ≤ length out.old }
-    ensures { Answered state piece.now out.old result out.new }
-{
-    let fed = batch::feed(state, piece, out);
-    let after = fed.state;
-    let verdict = fed.verdict;
-    let next = print_answers(rt, verdict, out);
-    Turn { state: after, next }
-}
-
-// After a read that answered `got`: answers what was read to the front of `piece`.
-fn after_read(
-    rt: &(impl Print + Eprint),
-    state: State,
-    got: io::Result<usize>,
-    piece: &[u8],
-    out: &mut [u8],
-) -> Turn
-    requires not_broken { broken state ≡ false }
-    requires has_room { over_long + length piece.now + more * length piece.now ≤ length out.old }
-    ensures { AfterRead got state piece.now out.old result out.new }
-{
-    match got {
-        Err(error) => {
-            let next = not_read(rt, error);
-            Turn { state, next }
-        }
-        Ok(n) => {
-            if n == 0 {
-                let next = at_end(state);
-                return Turn { state, next };
-            }
-            answer_piece(rt, state, &piece[..n.min(piece.len())], out)
-        }
-    }
-}
-
-// Reads a piece and answers it: for some answer of a read, this is the turn after that read.
-fn read_piece(
-    rt: &(impl Print + Eprint),
-    input: &mut impl Read,
-    state: State,
-    piece: &mut [u8],
-    out: &mut [u8],
-) -> Turn
-    requires not_broken { broken state ≡ false }
-    requires has_room { over_long + length piece.old + more * length piece.old ≤ length out.old }
-    ensures not_broken { broken result.state ≡ false }
-    ensures turn { (got : Result ℕ Error) × AfterRead got state piece.new out.old result out.new }
-{
-    let got = input.read(piece);
-    after_read(rt, state, got, piece, out)
-}
-
-// Reads and answers up to the end of the input.
-fn answer_input(
-    rt: &(impl Print + Eprint),
-    input: &mut impl Read,
-    piece: &mut [u8],
-    out: &mut [u8],
-) -> Turn
-    requires { over_long + length piece.old + more * length piece.old ≤ length out.old }
-    ensures { Run result }
-{
-    let mut state = batch::fresh();
-    for _ in 0..READS {
-        let turn = read_piece(rt, input, state, piece, out);
-        let next = turn.next;
-        let Next::Read = next else {
-            return turn;
-        };
-        state = turn.state;
-    }
-    let next = out_of_reads(rt);
-    Turn { state, next }
+    let what = "fade: standard output cannot be written; it is not whole";
+    Err(fail(rt, what, error))
 }
 
 // Where the totals come, prints them, and the end's number if there is one. Returns the text, which is
 // empty where none comes.
-fn print_totals(rt: &(impl Print + Eprint), turn: Turn) -> Text
-    ensures { take result.count result.bytes ≡ last_lines turn.state turn.next }
+#[tactic(auto, using(totals::proofs::Room::totals_most), unfolding(text::specs::Bytes::put))]
+fn print_totals<'a>(
+    rt: &(impl Print + Eprint),
+    state: State,
+    end: Result<End, Told>,
+    out: &'a mut [u8; TOTALS],
+) -> &'a [u8]
+    ensures { result.now ≡ last_lines state end }
 {
-    let mut out = [0u8; TOTALS];
-    let next = turn.next;
-    let Next::Totals(end) = next else {
-        return Text {
-            bytes: out,
-            count: 0,
-        };
+    let Ok(end) = end else {
+        return b"";
     };
-    let n = batch::write_totals(turn.state, end, &mut out);
-    print(rt, &out[..n], Next::Nothing);
-    Text {
-        bytes: out,
-        count: n,
-    }
+    let n = batch::write_totals(state, end as u32, out);
+    let text = &out[..n];
+    let _ = print(rt, text);
+    text
 }
 
 fn main(rt: HostRuntime) {
-    let mut input = rt.stdin();
-    let mut piece = [0u8; PIECE];
-    let mut out = [0u8; ANSWERS];
-    let last = answer_input(&rt, &mut input, &mut piece, &mut out);
-    print_totals(&rt, last);
+    let mut workspace = Workspace::new();
+    let end = workspace.answer_input(&rt, &mut rt.stdin());
+    print_totals(&rt, workspace.state, end, &mut [0; TOTALS]);
 }

@@ -1,5 +1,8 @@
 -- The exponent's field of a pattern, with or without the one more. Assumes nothing.
-use Rattle.std.proofs.Common.{ℕ, ◌+◌, ◌*◌, ◌/◌, ◌%◌, ◌^◌, ◌<◌, ◌≤◌, Bool, true, false, cond, leb, arith}
+use Rattle.std.proofs.Common.{ℕ, ◌+◌, ◌*◌, ◌/◌, ◌%◌, ◌^◌, ◌<◌, ◌≤◌, Bool, true, false, cond, T, leb, arith, pos, ◌-ℤ◌, nat_abs, w64, to_z, of_z}
+use Rattle.std.proofs.lemmas.Int.{ints}
+use borrow.Author.Numbers.{in_float_signed}
+use lib.Ieee.{binary64, in_float}
 use Rattle.fast_path.specs.Scaling.{biased}
 
 -- it is the field, or one more
@@ -24,3 +27,13 @@ biased_away v = go (biased v) v (biased_near v).1
   where
     go : (b v : ℕ) → b ≤ v / 4503599627370496 + 1 → b * 4503599627370496 ≤ v + 4607182418800017408
     go b v near = omega (arith, near)
+
+-- less 1023, as an i64, an f64 holds it
+pub field_held : (b : ℕ) → b ≤ 2048 → T (in_float binary64 (to_z w64 (of_z w64 (to_z w64 b -ℤ pos 1023))))
+field_held b h = in_float_signed binary64 (to_z w64 (of_z w64 (to_z w64 b -ℤ pos 1023))) (small b h)
+  where
+    small : (b : ℕ) → b ≤ 2048 → nat_abs (to_z w64 (of_z w64 (to_z w64 b -ℤ pos 1023))) ≤ 2 ^ 53
+    small b h = omega (arith, ints)
+
+-- what proves `exponent`
+pub ruleset field = (biased_below, field_held)

@@ -1,6 +1,6 @@
 -- Where the fast path reads its tables, and the power of two that is taken out or put in: each index is inside its table, and each power is one
 -- that an i64 holds, and its cast is defined. Assumes nothing.
-use Rattle.std.proofs.Common.{◌≡◌, ℕ, zero, suc, ◌+◌, ◌-◌, ◌*◌, ◌/◌, ◌%◌, ◌^◌, ◌<◌, ◌≤◌, min, Bool, true, false, cond, not, T, eqb, leb, ℤ, pos, negsuc, neg_ℤ, sym, ap, ◌∙◌, subst, le_trans, le_of_eq, le_of_lt, mul-le-mul_right, zero-lt-suc, mul-pos, mul-one, not-le_of_lt, arith, lit<, lit≤, eqb→eq, ltb→lt, leb→le, w64, to_z, of_z}
+use Rattle.std.proofs.Common.{◌≡◌, ℕ, zero, suc, ◌+◌, ◌-◌, ◌*◌, ◌/◌, ◌%◌, ◌^◌, ◌<◌, ◌≤◌, min, Bool, true, false, cond, not, T, eqb, leb, ℤ, pos, negsuc, neg_ℤ, sym, refl, ap, ◌∙◌, le_trans, le_of_eq, le_of_lt, mul-le-mul_right, zero-lt-suc, mul-pos, mul-one, not-le_of_lt, arith, lit<, lit≤, eqb→eq, ltb→lt, leb→le, w64, to_z, of_z}
 use native.Mathlib.Nat.{min-le_left}
 use lib.Dec.{nleb→lt}
 use lib.Ieee.{Float, nan, inf, fin, binary64, up, down, add, sub, le, lt, to_signed, in_signed, is_nan, fits, minus, nan_bits, to_bits, of_bits}
@@ -15,6 +15,7 @@ use Rattle.floats.proofs.Laws.Sums.{add_mono, add_mono_left, whole_distance, Siz
 use Rattle.floats.proofs.Laws.Cast.{part_at_most, signed_cast, whole_twice, whole_fits}
 use Rattle.fast_path.specs.Scaling.{scaled, biased, exponent_of, Within}
 use Rattle.fast_path.specs.Fast.{inverse_index, HasInverse, power_index, HasPower}
+pub use Rattle.fast_path.proofs.Field.{biased_below, biased_away}
 use Rattle.fast_path.proofs.Lifted.{within_read}
 
 -- ---- a value between two others
@@ -134,6 +135,9 @@ reduced_pattern v small =
     let e = taken_out v (biased v) small l.enough in
     (e, le_trans l.from (le_of_eq (sym e)), le_trans (le_of_eq e) l.to)
 
+-- what proves `reduced`
+pub ruleset reduced = (biased_below, biased_away, reduced_pattern)
+
 -- so it is no NaN's
 pub reduced_number : (v : ℕ) → v < 2 ^ 63 → T (not (nan_bits binary64 (scaled v (neg_ℤ (exponent_of v)))))
 reduced_number v small = number_of_below binary64 (scaled v (neg_ℤ (exponent_of v))) (within (scaled v (neg_ℤ (exponent_of v))) (reduced_pattern v small).2)
@@ -149,6 +153,9 @@ reduced_index v small =
     inverse_index_lem (of_bits binary64 n) (of_bits-fits binary64 n)
     (values_of_patterns binary64 0x3fe6800000000000 n (le_trans (lit≤ tt) r.1) (le_trans r.2 (lit≤ tt)))
     (values_of_patterns binary64 n 0x3ff6bc0000000000 (le_trans r.2 (lit≤ tt)) (lit≤ tt))
+
+pub reduced_below : (v : ℕ) → v < 2 ^ 63 → inverse_index (of_bits binary64 (scaled v (neg_ℤ (exponent_of v)))) < 46
+reduced_below v small = (reduced_index v small).1
 
 -- ---- a power of two that is put in: a value of size b at most, as an i64
 within_below : (b n : ℕ) → n ≤ b → Within b (neg_ℤ (pos n))
@@ -166,17 +173,15 @@ within_of_size b (fin false m e) h = le_trans (min-le_left (m * up e / down e) (
 abbrev pub cast : Float → ℤ
 cast k = to_z w64 (of_z w64 (to_signed 63 (k ⊕ fin false 0 (pos 0))))
 
--- it is defined, the number of k, and from -1000 to 1000
+-- it is defined, and the number of k
 pub record Castable (k : Float) : Type 0 where
   pub defined : T (in_signed binary64 63 (k ⊕ fin false 0 (pos 0)))
   pub read : cast k ≡ to_signed 63 k
-  pub within : Within 1000 (cast k)
 
 pub castable : (k : Float) → T (fits binary64 k) → nearest_whole k ≡ k → SizeAtMost 1000 k → Castable k
 castable k t w h =
     let c = signed_cast 63 1000 k t w h (lit≤ tt) (lit< tt) in
-    let r : cast k ≡ to_signed 63 k = ap (λ (z : ℤ). to_z w64 (of_z w64 z)) c.1 ∙ within_read (to_signed 63 k) (within_of_size 1000 k h) in
-    record { defined = c.0; read = r; within = subst (Within 1000) (sym r) (within_of_size 1000 k h) }
+    record { defined = c.0; read = ap (λ (z : ℤ). to_z w64 (of_z w64 z)) c.1 ∙ within_read (to_signed 63 k) (within_of_size 1000 k h) }
 
 pub size_under : (a c d : ℕ) → c ≤ 1000 → a * 1 ≤ c * d → a ≤ 1000 * d
 size_under a c d g h = le_trans (le_of_eq (sym (mul-one a))) (le_trans h (mul-le-mul_right d g))
@@ -201,6 +206,22 @@ distance_index t f g h =
     let r = sub binary64 t (nearest_whole t) in
     let w = whole_distance t f (size_finite 1000 t (exponent_small t g h)) in
     power_index_lem r (sub-fits binary64 t (nearest_whole t)) w.0 w.1
+
+-- ---- what proves `exp2_fast`
+pub cast_defined : (t : Float) → T (fits binary64 t) → T (lt (fin true 75 (pos 1)) t) → T (lt t (fin false 1 (pos 7))) → T (in_signed binary64 63 (nearest_whole t ⊕ fin false 0 (pos 0)))
+cast_defined t f g h = (whole_k t f g h).defined
+
+pub cast_read : (t : Float) → T (fits binary64 t) → T (lt (fin true 75 (pos 1)) t) → T (lt t (fin false 1 (pos 7))) → cast (nearest_whole t) ≡ to_signed 63 (nearest_whole t)
+cast_read t f g h = (whole_k t f g h).read
+
+pub distance_below : (t : Float) → T (fits binary64 t) → T (lt (fin true 75 (pos 1)) t) → T (lt t (fin false 1 (pos 7))) → power_index (sub binary64 t (nearest_whole t)) < 33
+distance_below t f g h = (distance_index t f g h).1
+
+pub is_0 : of_bits binary64 0 ≡ fin false 0 (pos 0)
+unfolding of_bits
+is_0 = refl
+
+pub ruleset two_to_t = (is_0, cast_defined, cast_read, distance_index, distance_below)
 
 -- what has an index in its table is no NaN: a NaN's pattern lies far above
 numbered : (y : Float) (w d n : ℕ) → n ≤ 0x7ff8000000000000 / w - d → to_bits binary64 y / w - d < n → T (not (is_nan y))

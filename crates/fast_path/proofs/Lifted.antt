@@ -1,34 +1,14 @@
--- k×2^52 as a u64 adds it: for k from -1000 to 1000, k + 4096 is a natural number, and adding its last twelve digits times 2^52 is adding
+-- k×2^52 by a natural number: for k from -1000 to 1000, k + 4096 is one, and adding its last twelve digits times 2^52 is adding
 -- k×2^52, since 4096×2^52 is 2^64. Assumes nothing.
-use Rattle.std.proofs.Common.{◌≡◌, ℕ, suc, ◌+◌, ◌-◌, ◌*◌, ◌%◌, ◌<◌, ◌≤◌, ltb, ℤ, pos, negsuc, ◌+ℤ◌, sym, refl, subst, lt_of_le_of_lt, arith, lit<, w64, SFits, to_z, of_z, le-ltb}
+use Rattle.std.proofs.Common.{◌≡◌, ℕ, suc, ◌+◌, ◌-◌, ◌*◌, ◌%◌, ◌<◌, ◌≤◌, ℤ, pos, negsuc, sym, subst, lt_of_le_of_lt, arith, lit<, w64, to_z, of_z}
 use lib.Signed.{mag}
 use mir.ValLaws.{to_z-of_z}
 use Rattle.fast_path.specs.Scaling.{scaled, Within}
-use Rattle.floats.proofs.Laws.Tests.{second}
 
 -- k + 4096
 abbrev pub lifted : ℤ → ℕ
 lifted (pos n) = n + 4096
 lifted (negsuc n) = 4096 - suc n
-
--- it is k + 4096, and below 5097
-pub lifted_is : (k : ℤ) → Within 1000 k → k +ℤ pos 4096 ≡ pos (lifted k)
-lifted_is (pos n) h = refl
-lifted_is (negsuc n) h = sym (second (ltb 4096 (suc n)) (negsuc (suc n - 4097)) (pos (4096 - suc n)) (le-ltb 4096 (suc n) (up h)))
-  where
-    up : n < 1000 → suc n ≤ 4096
-    up h = omega (arith, h)
-
-pub lifted_below : (k : ℤ) → Within 1000 k → lifted k < 5097
-lifted_below (pos n) h = omega (arith, h)
-lifted_below (negsuc n) h = omega (arith, h)
-
--- so it fits an i64, which reads it back
-pub lifted_fits : (k : ℤ) → Within 1000 k → SFits w64 (pos (lifted k))
-lifted_fits k h = record { sfits = lt_of_le_of_lt (below k h) (lit< tt) }
-  where
-    below : (k : ℤ) → Within 1000 k → lifted k ≤ 5097
-    below k h = omega (arith, lifted_below k h)
 
 -- the sum with its last twelve digits is the definition's
 pub lifted_sum : (v : ℕ) (k : ℤ) → Within 1000 k → (v + lifted k % 4096 * 4503599627370496) % 18446744073709551616 ≡ scaled v k

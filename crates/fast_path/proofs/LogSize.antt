@@ -5,7 +5,7 @@ use lib.Ieee.{Float}
 use Rattle.floats.specs.Operations.{◌⊕◌, ◌⊗◌}
 use Rattle.double_double.specs.DoubleDouble.{dd_fmla}
 use Rattle.tables.specs.Tables.{entry, log2p1_poly_p}
-use Rattle.fast_path.specs.Fast.{log2p1_polyeval1}
+use Rattle.fast_path.specs.Fast as Fast
 use Rattle.bounds.proofs.Values.{per_one, plus, less, mag}
 use Rattle.bounds.proofs.Operation.{mul_near}
 use Rattle.bounds.proofs.Scales.{S, S_pos, one_is, unit, unit_left, unit_right, Bound, at, add_bound, mul_bound, mul_limit, fmla_bound}
@@ -18,15 +18,9 @@ use Rattle.fast_path.proofs.Reduced.{Power}
 -- ---- the fast polynomial
 -- what z is multiplied by
 abbrev pub factor : Float → Float
-factor z =
-    let z2 = z ⊗ z in
-    let c5 = dd_fmla (entry log2p1_poly_p 6) z (entry log2p1_poly_p 5) in
-    let c3 = dd_fmla (entry log2p1_poly_p 4) z (entry log2p1_poly_p 3) in
-    let c1 = dd_fmla (entry log2p1_poly_p 2) z (entry log2p1_poly_p 1) in
-    dd_fmla (dd_fmla (entry log2p1_poly_p 7) z2 c5) (z2 ⊗ z2) (dd_fmla c3 z2 c1)
+factor z = Fast.factor dd_fmla z
 
-pub fast_is : (z : Float) → log2p1_polyeval1 z ≡ z ⊗ factor z
-unfolding log2p1_polyeval1
+pub fast_is : (z : Float) → Fast.log2p1_polyeval1 z ≡ z ⊗ factor z
 fast_is z = refl
 
 -- the steps of it
@@ -57,6 +51,7 @@ fast_steps {z} b =
     }
 
 pub fast_factor : {z : Float} → Bound S (2 ^ 47 + 2 ^ 33) z → Positive (91 * 2 ^ 47) (47 * 2 ^ 48) (factor z)
+unfolding Fast.factor
 fast_factor {z} b =
     let one = unit_left unit in
     let s = fast_steps b in

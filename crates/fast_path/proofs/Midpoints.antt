@@ -3,7 +3,7 @@
 -- smaller than v by the exponents is below 2^13 last places of v, so v less it and v plus it are among them (`clear_of_midpoints`). And where v is
 -- from 1/2 to 2 and a midpoint has its pattern at most 2112 from v's, the two are on both sides of it and narrow to two f32s (`near_midpoint_lem`).
 -- Assumes nothing.
-use Rattle.std.proofs.Common.{◌≡◌, ℕ, suc, ◌+◌, ◌-◌, ◌*◌, ◌/◌, ◌%◌, ◌^◌, ◌<◌, ◌≤◌, min, Bool, true, false, cond, not, T, eqb, ltb, sym, refl, ap, ◌∙◌, subst, ap₂, le_trans, le_of_eq, lt_of_lt_of_le, add-zero, add-mul, mul-le-mul, le_antisymm, arith, lit≤, ltb→lt, nltb→le, pow_mono, pow-add, le-ltb, lt-ltb, eq-eqb, ne_eqb}
+use Rattle.std.proofs.Common.{◌≡◌, ℕ, suc, ◌+◌, ◌-◌, ◌*◌, ◌/◌, ◌%◌, ◌^◌, ◌<◌, ◌≤◌, min, Bool, true, false, cond, not, T, eqb, ltb, Some, None, sym, refl, ap, ◌∙◌, subst, ap₂, le_trans, le_of_eq, lt_of_lt_of_le, add-zero, add-mul, mul-le-mul, le_antisymm, arith, lit≤, ltb→lt, nltb→le, pow_mono, pow-add, le-ltb, lt-ltb, eq-eqb, ne_eqb}
 use lib.Ieee.{Float, binary32, binary64, neg, sub, lt, eq, ne, fits, is_nan, to_bits, of_bits}
 use lib.Ieee.Bits.{of_bits-fits, of_bits-to_bits, to_bits-of_bits}
 use lib.Ieee.Exact.{HasValue}
@@ -13,8 +13,8 @@ use Rattle.floats.specs.Narrowing.{narrowed}
 use Rattle.floats.proofs.Laws.Magnitude.{below_infinity}
 use Rattle.floats.proofs.Laws.Compare.{key, key_clear, eq_by_key, number_of_bits, lt_of_bits}
 use Rattle.floats.proofs.Laws.Nearby.{UnitsAtMost, units_of_neg, units_of_pattern, Between, add_nearby}
+pub use Rattle.floats.proofs.Laws.Nan.{number_of_below}
 use Rattle.floats.proofs.Laws.Narrow.{normal_magnitude, narrowed_number, narrowed_fits}
-use Rattle.fast_path.specs.declared.Exp2.TheVariants.{Rounded, Failed}
 use Rattle.fast_path.specs.Fast.{rounding_test}
 use Rattle.floats.proofs.Laws.Powers.{normal_value}
 use Rattle.floats.proofs.Laws.Tests.{first, second}
@@ -107,7 +107,7 @@ module _ (w e : ℕ) (least : 0x3810000000004000 ≤ w) (most : w < 0x7fe0000000
       ∙ le-ltb (2 ^ 63 + w) (2 ^ 63 + 0x38100000000008e2) (omega arith)
 
   -- the test passes
-  pub clear_of_midpoints : Rounded (f64 w) ≡ rounding_test (f64 w) (f64 e)
+  pub clear_of_midpoints : Some (f64 w) ≡ rounding_test (f64 w) (f64 e)
   unfolding rounding_test sub ne
   clear_of_midpoints =
       let lb = narrowed (f64 w ⊖ f64 e) in
@@ -115,7 +115,7 @@ module _ (w e : ℕ) (least : 0x3810000000004000 ≤ w) (most : w < 0x7fe0000000
       let s = same_bounds (f64 e) small_error in
       let f = narrowed_fits (f64 w ⊕ f64 e) in
       let n : ne lb rb ≡ false = ap (λ (z : Float). not (eq z rb)) s.0 ∙ ap not (eq_by_key binary32 rb rb f f s.1 s.1 ∙ eq-eqb (key binary32 (to_bits binary32 rb)) (key binary32 (to_bits binary32 rb)) refl) in
-      second (ne lb rb) Failed (Rounded (f64 w)) n ∙ second (lt (f64 w) (f64 0x38100000000008e2)) Failed _ not_less
+      second (ne lb rb) None (Some (f64 w)) n ∙ second (lt (f64 w) (f64 0x38100000000008e2)) None _ not_less
 
 -- ---- below the normal f32s the first test fails
 under_normals : (w : ℕ) → w < 0x3810000000000000 → lt (f64 w) (f64 0x38100000000008e2) ≡ true
@@ -125,9 +125,12 @@ under_normals w h =
     ∙ ap (λ (n : ℕ). ltb n (2 ^ 63 + 0x38100000000008e2)) (key_clear binary64 w (omega (arith, h)))
     ∙ lt-ltb (2 ^ 63 + w) (2 ^ 63 + 0x38100000000008e2) (omega (arith, h))
 
-pub below_normal : (w e : ℕ) → w < 0x3810000000000000 → Failed ≡ rounding_test (f64 w) (f64 e)
+pub below_normal : (w e : ℕ) → w < 0x3810000000000000 → None ≡ rounding_test (f64 w) (f64 e)
 unfolding rounding_test
-below_normal w e h = first (lt (f64 w) (f64 0x38100000000008e2)) Failed _ (under_normals w h)
+below_normal w e h = first (lt (f64 w) (f64 0x38100000000008e2)) None _ (under_normals w h)
+
+-- what proves `pattern_test`
+pub ruleset by_pattern = (clear_of_midpoints, below_normal, number_of_below)
 
 -- ---- near a midpoint the second test fails, for a v from 1/2 to 2 and the error as it is before it is scaled
 -- the value of a pattern with the field i + 1, whose last place is 2^i units
@@ -279,18 +282,18 @@ module _ (i d w : ℕ) (of_one : 1021 ≤ i) (to_two : i ≤ 1022) (places : 285
       other : (i n m : ℕ) → 1021 ≤ i → suc i * 2 ^ 52 ≤ n → cut n < cut m → 2 ^ 31 + (cut n - 7516192768) ≡ 2 ^ 31 + (cut m - 7516192768) → ⊥
       other i n m g l h e = omega arith
 
-  bounds_differ : cut (w - d) < cut (w + d) → Failed ≡ rounding_test (f64 w) error
+  bounds_differ : cut (w - d) < cut (w + d) → None ≡ rounding_test (f64 w) error
   unfolding rounding_test ne
   bounds_differ h =
       go (lt (f64 w) (f64 0x38100000000008e2)) (eq (narrowed (f64 w ⊖ error)) (narrowed (f64 w ⊕ error)))
       (ap₂ (λ (x y : Float). eq (narrowed x) (narrowed y)) (sym (of_bits-to_bits binary64 (f64 w ⊖ error) (sub-fits binary64 (f64 w) error)) ∙ ap f64 lower_bound) (sym (of_bits-to_bits binary64 (f64 w ⊕ error) (add-fits binary64 (f64 w) error)) ∙ ap f64 upper_bound) ∙ differ h)
     where
-      go : (x y : Bool) → y ≡ false → Failed ≡ cond x Failed (cond (not y) Failed (Rounded (f64 w)))
+      go : (x y : Bool) → y ≡ false → None ≡ cond x None (cond (not y) None (Some (f64 w)))
       go true y e = refl
-      go false y e = ap (λ (z : Bool). cond (not z) Failed (Rounded (f64 w))) (sym e)
+      go false y e = ap (λ (z : Bool). cond (not z) None (Some (f64 w))) (sym e)
 
 -- the error is 4560 last places below 1, and 2280 above it
-pub near_midpoint_lem : (w : ℕ) → 1022 * 2 ^ 52 ≤ w → w < 1024 * 2 ^ 52 → (w + 0x10000840) % 0x20000000 ≤ 0x1080 → Failed ≡ rounding_test (f64 w) (f64 0x3d61d00000000000)
+pub near_midpoint_lem : (w : ℕ) → 1022 * 2 ^ 52 ≤ w → w < 1024 * 2 ^ 52 → (w + 0x10000840) % 0x20000000 ≤ 0x1080 → None ≡ rounding_test (f64 w) (f64 0x3d61d00000000000)
 near_midpoint_lem w l m h = go (ltb w (1023 * 2 ^ 52)) (ltb→lt w (1023 * 2 ^ 52)) (nltb→le w (1023 * 2 ^ 52))
   where
     -- the midpoint that is q * 2^29 less 2^28
@@ -309,7 +312,7 @@ near_midpoint_lem w l m h = go (ltb w (1023 * 2 ^ 52)) (ltb→lt w (1023 * 2 ^ 5
     between : (d : ℕ) → 2280 ≤ d → cut (w - d) < cut (w + d)
     between d g = lt_of_lt_of_le (before (w - d) ((w + 0x10000840) / 0x20000000) (from w d g h)) (after (w + d) ((w + 0x10000840) / 0x20000000) (to w d g h))
 
-    go : (x : Bool) → (T x → w < 1023 * 2 ^ 52) → (T (not x) → 1023 * 2 ^ 52 ≤ w) → Failed ≡ rounding_test (f64 w) (f64 0x3d61d00000000000)
+    go : (x : Bool) → (T x → w < 1023 * 2 ^ 52) → (T (not x) → 1023 * 2 ^ 52 ≤ w) → None ≡ rounding_test (f64 w) (f64 0x3d61d00000000000)
     go true f g = bounds_differ 1021 4560 w (lit≤ tt) (lit≤ tt) refl (low w l h) (high w (f tt) h) (between 4560 (lit≤ tt))
       where
         low : (w : ℕ) → 1022 * 2 ^ 52 ≤ w → (w + 0x10000840) % 0x20000000 ≤ 0x1080 → 1022 * 2 ^ 52 + 4560 ≤ w

@@ -17,7 +17,9 @@ use Rattle.bounds.proofs.Compared.{Positive, positive_at}
 use Rattle.bounds.proofs.Exactly.{minus_one_count, around, full_exact}
 use Rattle.bounds.proofs.Grids.{Grid, grid_pos, grid53, Count, count_mag, count_as, finer, count_same, count_sum, count_difference, count_product, NotMinusNought, not_minus_nought, sums_same}
 use Rattle.fast_path.proofs.Halved.{unit26, Halved, split_halved, cut_halved}
+use Rattle.fast_path.proofs.InverseRange.{inverse_range}
 use Rattle.fast_path.proofs.InverseSlot.{product_slot}
+pub use Rattle.fast_path.proofs.OnePlus.{is_1}
 
 -- 2^-8, 2^-34 and 2^-61 in units
 unfoldable unit8 : ℕ
@@ -346,7 +348,7 @@ near_of {R} {T} {Q} {r} {t} a c q few most =
         last Q P h g = omega arith
 
 -- ---- the law
-pub minus_one_same : (t : Float) → Positive (5 * 2 ^ 50) (3 * 2 ^ 52) t → HasInverse t
+minus_one_same : (t : Float) → Positive (5 * 2 ^ 50) (3 * 2 ^ 52) t → HasInverse t
     → let r = entry log2p1_compoundf_inv (inverse_index t) in
     let th = t ⊕ fin false 1 (pos 26) ⊖ fin false 1 (pos 26) in
     r ⊗ (t ⊖ th) ⊕ (r ⊗ th ⊖ one) ≡ dd_fmla r t minus_one
@@ -357,3 +359,17 @@ minus_one_same t b has =
     let q = around (positive_at (2 ^ 52) (3 * 2 ^ 52) (product_slot t wide has) tt tt) in
     let n = near_of r.count c.count q.count r.few c.most in
     form_same t r.count r.few q.count (record { least = q.least; most = q.most; upper = n.0; lower = n.1 }) (split_halved b c) _ _ (cut_halved b c)
+
+-- ---- what proves `times_minus_one`
+pub minus_one_lem : (r t : Float) → T (fits binary64 t) → HasInverse t → r ≡ entry log2p1_compoundf_inv (inverse_index t)
+    → r ⊗ (t ⊖ (t ⊕ fin false 1 (pos 26) ⊖ fin false 1 (pos 26))) ⊕ (r ⊗ (t ⊕ fin false 1 (pos 26) ⊖ fin false 1 (pos 26)) ⊖ one) ≡ dd_fmla r t minus_one
+minus_one_lem r t f h e =
+    let hi = t ⊕ fin false 1 (pos 26) ⊖ fin false 1 (pos 26) in
+    subst (λ (r : Float). r ⊗ (t ⊖ hi) ⊕ (r ⊗ hi ⊖ one) ≡ dd_fmla r t minus_one) (sym e) (minus_one_same t (inverse_range t f h) h)
+
+-- 2^26
+pub is_wide : of_bits binary64 0x4190000000000000 ≡ fin false 1 (pos 26)
+unfolding of_bits
+is_wide = refl
+
+pub ruleset less_one = (is_1, is_wide, minus_one_lem)

@@ -1,19 +1,18 @@
--- 1 + x for an x above -1: its sign is clear, it is no NaN, and with its power of two taken out it has an inverse; and for a finite binary32 x its pattern is that of a value from 2^-24
+-- 1 + x for an x above -1: its sign is clear, and it is no NaN; and for a finite binary32 x its pattern is that of a value from 2^-24
 -- to 2^128 (`sum_bits`). Assumes nothing.
-use Rattle.std.proofs.Common.{◌≡◌, ℕ, ◌+◌, ◌-◌, ◌*◌, ◌^◌, ◌<◌, ◌≤◌, Bool, true, false, cond, not, T, ltb, ◌⊎◌, ℤ, pos, negsuc, neg_ℤ, sym, ap, ◌∙◌, subst, inl, inr, lt_trans, le_of_eq, lt_of_lt_of_le, le_of_suc-le-suc, lt_of_le_of_lt, eq-or-lt_of_le, mul-pos, mul-one, le-add_left, arith, lit<, ltb→lt, lt→ltb}
-use lib.Ieee.{Float, nan, inf, fin, Format, binary32, binary64, up, down, round, sum, add, level, le, lt, fits, to_bits, of_bits, is_nan, nan_bits}
+use Rattle.std.proofs.Common.{◌≡◌, ℕ, ◌+◌, ◌-◌, ◌*◌, ◌^◌, ◌<◌, ◌≤◌, Bool, true, false, cond, not, T, ltb, ◌⊎◌, ℤ, pos, negsuc, sym, refl, ap, ◌∙◌, subst, inl, inr, lt_trans, le_of_eq, lt_of_lt_of_le, le_of_suc-le-suc, lt_of_le_of_lt, eq-or-lt_of_le, mul-pos, mul-one, le-add_left, arith, lit<, ltb→lt, lt→ltb}
+use lib.Ieee.{Float, nan, inf, fin, Format, binary32, binary64, up, down, round, sum, add, level, le, lt, fits, to_bits, of_bits, is_nan}
 use lib.Ieee.Bits.{of_bits-to_bits}
 use lib.Ieee.Fits.{add-fits, down_pos}
 use lib.Ieee.Scale.{finite}
-use Rattle.floats.specs.Operations.{◌⊕◌, f64}
+use Rattle.floats.specs.Operations.{f64}
 use Rattle.floats.proofs.Laws.Magnitude.{inf_under_top}
 use Rattle.floats.proofs.Laws.Order.{clear, round_clear, le_below, or_l, pattern_mono, order_of_patterns}
 use Rattle.floats.proofs.Laws.Sums.{add_mono}
 use Rattle.floats.proofs.Laws.Units.{bits_under_top, fits_digits}
 use Rattle.special.specs.Special.{one, minus_one}
-use Rattle.fast_path.specs.Scaling.{scaled, exponent_of}
-use Rattle.fast_path.specs.Fast.{inverse_index, HasInverse}
-use Rattle.fast_path.proofs.Index.{pattern_between, reduced_number, reduced_index}
+pub use Rattle.fast_path.proofs.Index.{reduced_number, reduced_index, reduced_below}
+use Rattle.fast_path.proofs.Index.{pattern_between}
 
 -- ---- the sign of 1 + x
 pub sum_clear : (f : Format) (s : Bool) (m : ℕ) (e : ℤ) → T (lt minus_one (fin s m e)) → T (clear (add f one (fin s m e)))
@@ -57,21 +56,13 @@ one_plus_number (fin s m e) h = number (add binary64 one (fin s m e)) (sum_clear
     number (inf s) c = tt
     number (fin s m e) c = tt
 
--- ---- 1 + x with its power of two taken out
--- t has an inverse, of index i
-pub indexed : (x : Float) (w : ℕ) → T (fits binary64 x) → T (lt minus_one x) → w ≡ scaled (to_bits binary64 (one ⊕ x)) (neg_ℤ (exponent_of (to_bits binary64 (one ⊕ x))))
-    → HasInverse (f64 w)
-indexed x w f h e =
-    subst (λ (u : ℕ). HasInverse (f64 u)) (sym e) (reduced_index (to_bits binary64 (one ⊕ x)) (one_plus_clear x f h))
+-- ---- what proves `log2p1`
+-- what the code has for 1
+pub is_1 : f64 0x3ff0000000000000 ≡ one
+unfolding of_bits
+is_1 = refl
 
-pub index_below : (x : Float) (w i : ℕ) → T (fits binary64 x) → T (lt minus_one x) → w ≡ scaled (to_bits binary64 (one ⊕ x)) (neg_ℤ (exponent_of (to_bits binary64 (one ⊕ x))))
-    → i ≡ inverse_index (f64 w) → i < 46
-index_below x w i f h e d = subst (λ (n : ℕ). n < 46) (sym d) (indexed x w f h e).1
-
--- what is left without e is no NaN's pattern
-pub reduced_is_number : (x : Float) (w : ℕ) → T (fits binary64 x) → T (lt minus_one x) → w ≡ scaled (to_bits binary64 (one ⊕ x)) (neg_ℤ (exponent_of (to_bits binary64 (one ⊕ x))))
-    → T (not (nan_bits binary64 w))
-reduced_is_number x w f h e = subst (λ (n : ℕ). T (not (nan_bits binary64 n))) (sym e) (reduced_number (to_bits binary64 (one ⊕ x)) (one_plus_clear x f h))
+pub ruleset one_plus = (is_1, one_plus_clear, one_plus_number, reduced_number, reduced_index, reduced_below)
 
 -- ---- the least binary32 above -1, 2^-24 - 1, and the largest, 2^128 - 2^104
 abbrev least : Float

@@ -12,52 +12,19 @@ ghost use Rattle.tables.specs.Tables.{entry, log2p1_compoundf_inv};
 ghost use Rattle.special.specs.Special.{minus_one};
 ghost use Rattle.fast_path.specs.Fast as spec;
 
-use crate::scaling::{exponent, reduced, scaled};
+use crate::evaluation::{MulAdd, log2p1, power};
+use crate::scaling::scaled;
 use floats::narrowing::narrow;
-use floats::patterns::{from_bits_f64, to_bits_f64};
 use floats::rounding::round_ties_even;
 use fmla::fmla;
-use tables::{
-    compoundf_exp2_t, compoundf_exp2_u, log2p1_compoundf_inv, log2p1_compoundf_log2_inv, poly_p,
-    poly_q,
-};
+use std::num::f64_from_bits_with_nan;
+use tables::{CompoundfExp2T, Table};
 
+pub mod evaluation;
 pub mod scaling;
 
-// What `exp2_fast` finds: a number near 2^t where the rounding test passes, or that it fails.
-#[derive(Clone, Copy)]
-pub enum Exp2 {
-    Rounded(f64),
-    Failed,
-}
-
-// Near log2(1 + z) for |z| <= 1/64.
-fn log2p1_polyeval_1(z: f64) -> f64
-    ensures { result ≡ spec.log2p1_polyeval1 z }
-{
-    let z2 = z * z;
-    let c5 = fmla(poly_p(6), z, poly_p(5));
-    let c3 = fmla(poly_p(4), z, poly_p(3));
-    let c1 = fmla(poly_p(2), z, poly_p(1));
-    let z4 = z2 * z2;
-    let c5 = fmla(poly_p(7), z2, c5);
-    let c1 = fmla(c3, z2, c1);
-    let c1 = fmla(c5, z4, c1);
-    z * c1
-}
-
-// Near 2^z for |z| <= 2^-6.
-fn compoundf_expf_poly(z: f64) -> f64
-    ensures { result ≡ spec.compoundf_expf_poly z }
-{
-    let z2 = z * z;
-    let c3 = fmla(poly_q(4), z, poly_q(3));
-    let c0 = fmla(poly_q(1), z, poly_q(0));
-    let c2 = fmla(c3, z, poly_q(2));
-    fmla(c2, z2, c0)
-}
-
 // The index of the inverse of t.
+#[tactic(auto, using(crate::proofs::Index::inverse_number), unfolding(crate::specs::Fast::inverse_index))]
 pub fn inverse_index(t: f64) -> u64
     requires { spec.HasInverse t }
     ensures { result ≡ spec.inverse_index t }
@@ -68,6 +35,7 @@ pub fn inverse_index(t: f64) -> u64
 
 // r * t - 1 for the inverse r of t, as `dd_fmla` has it. r has at most nine digits, so that its
 // products with the two parts of t are exact.
+#[tactic(auto, using(crate::proofs::MinusOne::less_one))]
 pub fn times_minus_one(r: f64, t: f64) -> f64
     requires has_inverse { spec.HasInverse t }
     requires r_is_inverse { r ≡ entry log2p1_compoundf_inv (spec.inverse_index t) }
@@ -79,30 +47,32 @@ pub fn times_minus_one(r: f64, t: f64) -> f64
     r * lo + (r * hi - 1.0)
 }
 
+// a * b + c as `dd_fmla` has it.
+pub struct DdFmla;
+
+impl MulAdd for DdFmla {
+    ghost mul_add = { dd_fmla };
+
+    fn mul_add(a: f64, b: f64, c: f64) -> f64 {
+        fmla(a, b, c)
+    }
+
+    fn times_minus_one(r: f64, t: f64) -> f64 {
+        times_minus_one(r, t)
+    }
+}
+
 // Near log2(1 + x) for the f64 of an f32 above -1. The source says that the relative error is below
 // 2^-47.997; nothing here rests on that.
 pub fn compoundf_log2p1_fast(x: f64) -> f64
     requires { T (lt minus_one x) }
     ensures { result ≡ spec.compoundf_log2p1_fast x }
 {
-    let u = 1.0 + x;
-    let v = f64::to_bits(u);
-    // u = 2^e * t with 1/sqrt(2) < t < sqrt(2), thus log2(u) = e + log2(t)
-    let t = f64::from_bits(reduced(v));
-    let i = inverse_index(t);
-    // This never happens; the test tells the compiler the range, so that the tables need none.
-    if i > 45 {
-        return 0.0;
-    }
-    let r = log2p1_compoundf_inv(i);
-    let z = times_minus_one(r, t);
-    // log2(t) is -log2(r) + log2(r * t)
-    let p = log2p1_polyeval_1(z);
-    let log2_inv = log2p1_compoundf_log2_inv(i);
-    exponent(v) + (log2_inv.hi + p)
+    log2p1::<DdFmla>(x)
 }
 
 // The index of the nearest 32nd to r.
+#[tactic(auto, using(crate::proofs::Index::power_number), unfolding(crate::specs::Fast::power_index))]
 pub fn power_index(r: f64) -> u64
     requires { spec.HasPower r }
     ensures { result ≡ spec.power_index r }
@@ -112,58 +82,56 @@ pub fn power_index(r: f64) -> u64
 }
 
 // The pattern of a number near 2^r.
+#[tactic(auto, unfolding(crate::specs::Fast::exp2_reduced))]
 fn exp2_reduced(r: f64) -> u64
     requires { spec.HasPower r }
     ensures { result ≡ spec.exp2_reduced r }
 {
     let i = power_index(r);
-    // This never happens, as above.
-    if i > 32 {
-        return 0;
-    }
-    let rest = r - compoundf_exp2_t(i);
-    let q = compoundf_expf_poly(rest);
-    let exp2u = compoundf_exp2_u(i);
-    to_bits_f64(exp2u.hi * q)
+    power::<DdFmla>(i, r - CompoundfExp2T::at(i))
 }
 
-// v, where it is large enough to be a normal f32, and v less err and v plus err narrow to one f32.
-fn rounding_test(v: f64, err: f64) -> Exp2
+// Below, a value may be too small to be a normal f32.
+const LEAST_NORMAL: f64 = f64::from_bits(0x3810_0000_0000_08e2);
+
+// v, where it is large enough to be a normal f32, and v less err and v plus err narrow to one f32; else
+// `None`, the source's -1.0.
+#[tactic(auto, unfolding(crate::specs::Fast::rounding_test))]
+fn rounding_test(v: f64, err: f64) -> Option<f64>
     ensures { result ≡ spec.rounding_test v err }
 {
     // in case of potential underflow, we defer to the accurate path
-    if v < f64::from_bits(0x3810_0000_0000_08e2) {
-        return Exp2::Failed;
+    if v < LEAST_NORMAL {
+        return None;
     }
     let lb = narrow(v - err);
     let rb = narrow(v + err);
-    if lb != rb {
-        return Exp2::Failed;
-    }
-    Exp2::Rounded(v)
+    if lb != rb { None } else { Some(v) }
 }
 
 // `rounding_test` by the patterns w of v and e of err. Where e <= w - 40 * 2^52, err is at most 2^-40
 // of v, and so below 2^13 last places of it, or 2^14 of those below a power of two. If no midpoint of
 // two f32s is that near to v, both bounds narrow to one f32.
-fn pattern_test(w: u64, e: u64) -> Exp2
+#[tactic(auto, using(crate::proofs::Midpoints::by_pattern))]
+fn pattern_test(w: u64, e: u64) -> Option<f64>
     ensures { result ≡ spec.rounding_test (f64 w) (f64 e) }
 {
     if w < 0x3810_0000_0000_0000 {
-        return Exp2::Failed;
-    }
-    if w >= 0x3810_0000_0000_4000
+        None
+    } else if w >= 0x3810_0000_0000_4000
         && w < 0x7fe0_0000_0000_0000
         && e <= w - 0x280_0000_0000_0000
         && (w + 0x1000_2000) % 0x2000_0000 > 0x6000
     {
-        return Exp2::Rounded(f64::from_bits(w));
+        Some(f64::from_bits(w))
+    } else {
+        rounding_test(f64_from_bits_with_nan(w), f64_from_bits_with_nan(e))
     }
-    rounding_test(from_bits_f64(w), from_bits_f64(e))
 }
 
 // Near 2^t, where the rounding test passes.
-pub fn exp2_fast(t: f64) -> Exp2
+#[tactic(auto, using(crate::proofs::Index::two_to_t), unfolding(crate::specs::Fast::exp2_fast))]
+pub fn exp2_fast(t: f64) -> Option<f64>
     requires t_above { T (lt (fin true 75 (pos 1)) t) }
     requires t_below { T (lt t (fin false 1 (pos 7))) }
     ensures { result ≡ spec.exp2_fast t }

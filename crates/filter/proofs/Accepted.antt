@@ -1,6 +1,6 @@
 -- Where the plain pattern is clear of every midpoint of two f32s, the fast path's rounding test passes, and its value narrows to what the plain pattern rounds to
 -- (`accepted`). Assumes nothing.
-use Rattle.std.proofs.Common.{◌≡◌, ℕ, ◌+◌, ◌-◌, ◌*◌, ◌/◌, ◌%◌, ◌^◌, ◌<◌, ◌≤◌, min, not, T, ℤ, pos, negsuc, sym, ap, ◌∙◌, arith, lit<, lit≤}
+use Rattle.std.proofs.Common.{◌≡◌, ℕ, ◌+◌, ◌-◌, ◌*◌, ◌/◌, ◌%◌, ◌^◌, ◌<◌, ◌≤◌, min, not, T, ℤ, pos, negsuc, Some, sym, ap, ◌∙◌, arith, lit<, lit≤}
 use lib.Ieee.{binary32, nan_bits, of_bits}
 use lib.Ieee.Bits.{of_bits-to_bits}
 use Rattle.floats.specs.Operations.{f64}
@@ -9,7 +9,6 @@ use Rattle.floats.proofs.Laws.Nan.{number_of_below}
 use Rattle.floats.proofs.Laws.Narrow.{normal_magnitude, narrowed_fits}
 use Rattle.fast_path.specs.Scaling.{scaled, Within}
 use Rattle.fast_path.specs.Fast.{rounding_test}
-use Rattle.fast_path.specs.declared.Exp2.TheVariants.{Rounded}
 use Rattle.fast_path.proofs.Lifted.{lifted, lifted_sum}
 use Rattle.fast_path.proofs.Midpoints.{clear_of_midpoints}
 use Rattle.filter.specs.Plain.{margin}
@@ -17,7 +16,7 @@ use Rattle.filter.proofs.Power.{Unscaled}
 
 -- the fast path's pattern b, scaled, passes the rounding test, and its value narrows to the f32 that the plain pattern b', scaled, is nearest to
 pub record Accepted (b b' : ℕ) (k : ℤ) : Type 0 where
-  pub passes : rounding_test (f64 (scaled b k)) (f64 (scaled 0x3d61d00000000000 k)) ≡ Rounded (f64 (scaled b k))
+  pub passes : rounding_test (f64 (scaled b k)) (f64 (scaled 0x3d61d00000000000 k)) ≡ Some (f64 (scaled b k))
   pub narrows : narrowed (f64 (scaled b k)) ≡ of_bits binary32 ((scaled b' k + 0x10000000) / 0x20000000 - 0x1c0000000)
 
 -- ---- a pattern from 2^-41 to 2, scaled by 2^k for a k from -124 to 124: nothing wraps
@@ -66,7 +65,7 @@ module _ (w w' e : ℕ) (p : Patterns w w' e) (t : 2 * margin < (w' + (0x1000000
       apart : (w w' : ℕ) → w ≤ w' + 2 ^ 20 → w' ≤ w + 2 ^ 20 → 2 * margin < (w' + (0x10000000 + margin)) % 0x20000000 → 0x6000 < (w + 0x10002000) % 0x20000000
       apart w w' g h t = omega arith
 
-  passed : Rounded (f64 w) ≡ rounding_test (f64 w) (f64 e)
+  passed : Some (f64 w) ≡ rounding_test (f64 w) (f64 e)
   passed = clear_of_midpoints w e (least w p.low) (most w p.high) p.beside clear
     where
       least : (w : ℕ) → 898 * 2 ^ 52 ≤ w → 0x3810000000004000 ≤ w

@@ -1,6 +1,6 @@
 -- What the plain t' settles at the edges: at most -151, t is at the lower edge (`low_edge_lem`); at least 129, at the upper (`high_edge_lem`); 0, at that of 1 (`at_one`); and from -149.5 to -128 the fast
 -- path fails its tests, since its value is below the normal f32s (`below_normals`). Assumes nothing.
-use Rattle.std.proofs.Common.{◌≡◌, ℕ, zero, suc, ◌+◌, ◌-◌, ◌*◌, ◌/◌, ◌%◌, ◌^◌, ◌<◌, ◌≤◌, min, Bool, true, false, cond, not, ◌&&◌, leb, ◌⊎◌, ℤ, pos, negsuc, neg_ℤ, sym, refl, ap, ◌∙◌, subst, inl, inr, true≢false, le_trans, le_of_eq, mul-le-mul_right, mul_assoc, mul_comm, mul-pos, le-div_iff_mul-le, zero-add, mul_right_comm, le_of_mul-le-mul_right, arith, lit<, lit≤, le-leb}
+use Rattle.std.proofs.Common.{◌≡◌, ℕ, zero, suc, ◌+◌, ◌-◌, ◌*◌, ◌/◌, ◌%◌, ◌^◌, ◌<◌, ◌≤◌, min, Bool, true, false, cond, not, ◌&&◌, leb, ◌⊎◌, ℤ, pos, negsuc, neg_ℤ, sym, refl, ap, ◌∙◌, subst, inl, inr, true≢false, le_trans, le_of_eq, mul-le-mul_right, mul_assoc, mul_comm, mul-pos, le-div_iff_mul-le, zero-add, mul_right_comm, le_of_mul-le-mul_right, arith, lit<, lit≤, le-leb, None}
 use borrow.Author.Tests.{lt-leb}
 use lib.Ieee.{Float, nan, inf, fin, binary64, up, down, size, fits, to_bits, to_signed, le, lt, eq, is_nan}
 use lib.Ieee.Fits.{down_pos}
@@ -14,7 +14,6 @@ use Rattle.special.specs.Special as Special
 use Rattle.special.proofs.Rule.{finite_number}
 use Rattle.fast_path.specs.Scaling.{scaled, Within}
 use Rattle.fast_path.specs.Fast.{exp2_reduced, exp2_fast}
-use Rattle.fast_path.specs.declared.Exp2.TheVariants.{Failed}
 use Rattle.fast_path.proofs.Index.{within_of_size}
 use Rattle.fast_path.proofs.Lifted.{lifted, lifted_sum}
 use Rattle.fast_path.proofs.Midpoints.{below_normal}
@@ -286,7 +285,7 @@ module _ (t : Float) (s : Subnormal t) where
       go : (s w : ℕ) → w ≡ s * 2 ^ 53 → 150 * 2 ^ 53 * s ≡ 150 * w
       go s w e = omega arith
 
-  fails : exp2_fast t ≡ Failed
+  fails : exp2_fast t ≡ None
   unfolding exp2_fast k
   fails = sym (below_normal (scaled (exp2_reduced (t ⊖ nearest_whole t)) (to_signed 63 (nearest_whole t))) (scaled 0x3d61d00000000000 (to_signed 63 (nearest_whole t))) (scaled_low (exp2_reduced (t ⊖ nearest_whole t)) (to_signed 63 (nearest_whole t)) unscaled within (cast_low 127 (nearest_whole t) (lit≤ tt) (lit≤ tt) k_bound.number k_low)))
     where

@@ -4,6 +4,7 @@ use Rattle.std.proofs.Common.{ℕ, ◌+◌, ◌*◌, ◌^◌, Bool, true, ◌&&�
 use lib.Ieee.{Float}
 use Rattle.floats.specs.Operations.{◌⊕◌, ◌⊗◌}
 use Rattle.tables.specs.Tables.{entry, log2p1_poly_p}
+use Rattle.fast_path.specs.Fast as Fast
 use Rattle.fast_path.proofs.Coefficients.{fast_first, fast_second, fast_size}
 use Rattle.fast_path.proofs.LogSize.{factor, fast_steps}
 use Rattle.bounds.proofs.Scales.{S, unit, unit_left, Bound, at, ok, sum_k, product_k, add_bound, mul_bound}
@@ -53,14 +54,14 @@ plain_steps {z} b =
 
 -- at most 47/32
 pub plain_factor_lem : {z : Float} → Bound S (2 ^ 47 + 2 ^ 34) z → Bound S (47 * 2 ^ 48) (plain_factor z)
-unfolding plain_factor
+unfolding Fast.factor
 plain_factor_lem b =
     let s = plain_steps b in
     at (47 * 2 ^ 48) (plain_bound s.c5' s.z4 s.c1' tt) tt
 
 -- ---- the steps side by side
 pub factor_beside : {z z' : Float} → Apart S 40 z z' → Bound S (2 ^ 47 + 2 ^ 33) z → Bound S (2 ^ 47 + 2 ^ 34) z' → Apart S 120 (factor z) (plain_factor z')
-unfolding plain_factor
+unfolding Fast.factor
 factor_beside {z} {z'} a b b' =
     let one = unit_left unit in
     let s = fast_steps b in

@@ -5,6 +5,7 @@ pub mod Factor
 pub mod Logarithm
 pub mod Polynomial
 pub mod Switches
+pub mod NotZero
 pub mod Power
 pub mod Accepted
 pub mod Middle

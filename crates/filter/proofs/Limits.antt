@@ -1,11 +1,11 @@
 -- What the filter's tests say of a value: between two numbers it is bounded on the scale of 1 (`between_bound`), and a bounded value is between the edges (`inside_edges`). Assumes
 -- nothing.
-use Rattle.std.proofs.Common.{◌≡◌, ℕ, ◌+◌, ◌-◌, ◌*◌, ◌^◌, ◌<◌, ◌≤◌, true, false, ◌⊎◌, pos, sym, refl, subst, inl, inr, arith, lit<}
-use lib.Ieee.{Float, fin, fits, of_bits, neg, le, lt}
+use Rattle.std.proofs.Common.{◌≡◌, ℕ, ◌+◌, ◌-◌, ◌*◌, ◌^◌, ◌<◌, ◌≤◌, true, false, ◌⊎◌, pos, negsuc, sym, refl, subst, inl, inr, arith, lit<}
+use lib.Ieee.{Float, fin, binary64, fits, of_bits, sub, neg, le, lt}
 use Rattle.bounds.proofs.Values.{plus, less, one_side, Number}
 use Rattle.bounds.proofs.Scales.{S, unit, Bound, neg_bound, tested}
 use Rattle.bounds.proofs.Compared.{lt_true, units_of_le}
-use Rattle.filter.specs.Plain.{part_end, rest_end}
+use Rattle.filter.specs.Plain.{switch_gap, part_end, rest_end}
 
 -- between a and b, both at most K
 pub between_bound : {a b x : Float} (K : ℕ) → Bound S K a → Bound S K b → Number x → le a x ≡ true → le x b ≡ true → Bound S K x
@@ -31,6 +31,38 @@ over_limit {x} {c} K b n e h = lt_true n b.number (go (plus x) (less x) (plus c)
   where
     go : (p n q m k : ℕ) → q ≡ 0 → p + n ≤ k → k < m → q + n < p + m
     go p n q m k e g h = omega arith
+
+-- ---- the numbers of the code
+pub is_minus_151 : of_bits binary64 0xc062e00000000000 ≡ fin true 151 (pos 0)
+unfolding of_bits
+is_minus_151 = refl
+
+pub is_minus_299_halves : of_bits binary64 0xc062b00000000000 ≡ fin true 299 (negsuc 0)
+unfolding of_bits
+is_minus_299_halves = refl
+
+pub is_minus_128 : of_bits binary64 0xc060000000000000 ≡ fin true 1 (pos 7)
+unfolding of_bits
+is_minus_128 = refl
+
+pub is_129 : of_bits binary64 0x4060200000000000 ≡ fin false 129 (pos 0)
+unfolding of_bits
+is_129 = refl
+
+pub is_minus_124 : of_bits binary64 0xc05f000000000000 ≡ fin true 31 (pos 2)
+unfolding of_bits
+is_minus_124 = refl
+
+pub is_124 : of_bits binary64 0x405f000000000000 ≡ fin false 31 (pos 2)
+unfolding of_bits
+is_124 = refl
+
+pub is_minus_1 : of_bits binary64 0xbff0000000000000 ≡ fin true 1 (pos 0)
+unfolding of_bits
+is_minus_1 = refl
+
+-- what proves `low_found` and `high_found`
+pub ruleset edges = (is_minus_151, is_minus_299_halves, is_minus_128, is_129)
 
 -- ---- the numbers of the tests
 -- -150 and 128
@@ -65,11 +97,11 @@ middle_bound n g h = between_bound (124 * 2 ^ 53) low high n g h
     high = unfold fits in tested (124 * 2 ^ 53) (fin false 31 (pos 2)) tt
 
 -- between -c and c
-end_bound : {t : Float} (K : ℕ) (c : Float) → Bound S K c → Number t → le t c ≡ true → le (neg c) t ≡ true → Bound S K t
+pub end_bound : {t : Float} (K : ℕ) (c : Float) → Bound S K c → Number t → le t c ≡ true → le (neg c) t ≡ true → Bound S K t
 end_bound K c b n g h = between_bound K (neg_bound b) b n h g
 
-pub part_bound : {t : Float} → Number t → le t part_end ≡ true → le (neg part_end) t ≡ true → Bound S (2 ^ 52 - 2 ^ 23) t
-part_bound n g h = end_bound (2 ^ 52 - 2 ^ 23) part_end (unfold of_bits fits in tested (2 ^ 52 - 2 ^ 23) part_end tt) n g h
+pub part_bound : {t : Float} → Number t → le t (part_end switch_gap) ≡ true → le (neg (part_end switch_gap)) t ≡ true → Bound S (2 ^ 52 - 2 ^ 23) t
+part_bound n g h = end_bound (2 ^ 52 - 2 ^ 23) (part_end switch_gap) (unfold of_bits fits sub in tested (2 ^ 52 - 2 ^ 23) (part_end switch_gap) tt) n g h
 
-pub rest_bound : {t : Float} → Number t → le t rest_end ≡ true → le (neg rest_end) t ≡ true → Bound S (2 ^ 47 - 2 ^ 23) t
-rest_bound n g h = end_bound (2 ^ 47 - 2 ^ 23) rest_end (unfold of_bits fits in tested (2 ^ 47 - 2 ^ 23) rest_end tt) n g h
+pub rest_bound : {t : Float} → Number t → le t (rest_end switch_gap) ≡ true → le (neg (rest_end switch_gap)) t ≡ true → Bound S (2 ^ 47 - 2 ^ 23) t
+rest_bound n g h = end_bound (2 ^ 47 - 2 ^ 23) (rest_end switch_gap) (unfold of_bits fits sub in tested (2 ^ 47 - 2 ^ 23) (rest_end switch_gap) tt) n g h

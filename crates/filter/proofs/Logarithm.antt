@@ -9,7 +9,7 @@ use Rattle.double_double.specs.DoubleDouble.{dd_fmla}
 use Rattle.tables.specs.Tables.{entry, pair_entry, log2p1_compoundf_inv, log2p1_compoundf_log2_inv}
 use Rattle.special.specs.Special.{one, minus_one}
 use Rattle.fast_path.specs.Scaling.{scaled, exponent_of}
-use Rattle.fast_path.specs.Fast.{inverse_index, HasInverse, log2p1_polyeval1, compoundf_log2p1_fast}
+use Rattle.fast_path.specs.Fast.{inverse_index, HasInverse, log2p1, compoundf_log2p1_fast}
 use Rattle.fast_path.proofs.Coefficients.{inverse_log_hi}
 use Rattle.fast_path.proofs.Index.{reduced_index}
 use Rattle.fast_path.proofs.InverseSlot.{inverse_slot, inverse_size, minus_one_is}
@@ -264,7 +264,7 @@ module _ (v : ℕ) (low : 999 * 2 ^ 52 ≤ v) (high : v < 1151 * 2 ^ 52) where
       go (inr w) = whole_case w
 
 pub log_beside : (x : Float) → T (fits binary32 x) → T (finite x) → T (lt minus_one x) → LogBeside (compoundf_log2p1_fast x) (plain_log2p1 x)
-unfolding compoundf_log2p1_fast log2p1_polyeval1 plain_log2p1 e t i r a z z' p p'
+unfolding log2p1 e t i r a z z' p p'
 log_beside x f p h =
     let b = sum_bits x f p h in
     beside (to_bits binary64 (one ⊕ x)) b.0 b.1

@@ -1,7 +1,7 @@
 -- For t from -124 to 124: its nearest whole number can be cast, what is left of it has a power, and where it is clear of the switches the scaled pattern is that of a normal f32's
 -- value (`scaled_range`). Assumes nothing.
-use Rattle.std.proofs.Common.{◌≡◌, ℕ, zero, suc, ◌+◌, ◌-◌, ◌*◌, ◌^◌, ◌<◌, ◌≤◌, Bool, true, false, ◌&&◌, T, ℤ, pos, sym, refl, subst, inl, inr, true≢false, le_trans, le_of_eq, lt_irrefl, zero-lt-suc, zero-mul, arith, lit<, lit≤}
-use lib.Ieee.{Float, nan, inf, fin, binary64, fits, neg, le, lt, of_bits, to_signed}
+use Rattle.std.proofs.Common.{◌≡◌, ℕ, zero, suc, ◌+◌, ◌-◌, ◌*◌, ◌^◌, ◌<◌, ◌≤◌, Bool, true, false, ◌&&◌, T, ℤ, pos, sym, refl, subst, inl, inr, true≢false, le_trans, le_of_eq, lt_irrefl, lt_of_lt_of_le, zero-lt-suc, zero-mul, arith, lit<, lit≤}
+use lib.Ieee.{Float, nan, inf, fin, binary64, fits, sub, neg, le, lt, eq, of_bits, to_signed}
 use lib.Ieee.Bits.{is_true}
 use lib.Ieee.Fits.{sub-fits}
 use lib.Ieee.Scale.{finite}
@@ -12,6 +12,7 @@ use Rattle.floats.proofs.Laws.Sums.{SizeAtMost, whole_at_most}
 use Rattle.floats.proofs.Laws.Cast.{whole_fits}
 use Rattle.floats.proofs.Laws.SmallWhole.{plus_zero, small_of_size, NotMinusZero, left_over}
 use Rattle.floats.proofs.Laws.Units.{HasSign, exponent}
+use Rattle.special.specs.Special as Special
 use Rattle.tables.specs.Tables.{entry, compoundf_exp2_t}
 use Rattle.fast_path.specs.Scaling.{scaled, Within}
 use Rattle.fast_path.specs.Fast.{power_index, HasPower}
@@ -21,10 +22,12 @@ use Rattle.bounds.proofs.Values.{per_one, plus, less, mag, Number}
 use Rattle.bounds.proofs.Scales.{S, one_is, Bound, at}
 use Rattle.bounds.proofs.Distances.{apart_at}
 use Rattle.bounds.proofs.Apart.{apart_same}
-use Rattle.bounds.proofs.Compared.{units_in_size, units_of_not_lt}
-use Rattle.filter.specs.Plain.{part_of, rest_of, plain_pattern, part_end, rest_end, clear_of_index, clear_of_switches, is_tiny}
+use Rattle.bounds.proofs.Compared.{le_of_units, units_in_size, units_of_not_lt}
+use Rattle.filter.specs.Plain.{part_of, rest_of, plain_pattern, switch_gap, part_end, rest_end, clear_of_switches, is_tiny, Middle}
+pub use Rattle.filter.proofs.Limits.{is_minus_124, is_124}
 use Rattle.filter.proofs.Limits.{InsideEdges, inside_edges, middle_bound, part_bound, rest_bound}
 use Rattle.filter.proofs.Power.{Unscaled, power_beside}
+use Rattle.filter.proofs.NotZero.{not_zero}
 use Rattle.filter.proofs.Accepted.{lifted_low, lifted_high, scaled_is}
 
 -- the scaled pattern
@@ -38,10 +41,10 @@ scaled_range b k u w = go b (lifted k) (scaled b k) u.low u.high (lifted_low k w
 -- |t| is 2^-300 at least
 pub not_small : {t : Float} → Number t → is_tiny t ≡ false → 2 ^ 774 ≤ mag t
 unfolding is_tiny
-not_small {t} n h = go (lt (f64 0xad30000000000000) t) refl (lt t (f64 0x2d30000000000000)) refl h
+not_small {t} n h = go (lt (neg (f64 0x2d30000000000000)) t) refl (lt t (f64 0x2d30000000000000)) refl h
   where
-    below : Number (f64 0xad30000000000000) × (plus (f64 0xad30000000000000) ≡ 0) × (less (f64 0xad30000000000000) ≡ 2 ^ 774)
-    below = unfold of_bits fits in (record { held = tt; plain = tt }, refl, refl)
+    below : Number (neg (f64 0x2d30000000000000)) × (plus (neg (f64 0x2d30000000000000)) ≡ 0) × (less (neg (f64 0x2d30000000000000)) ≡ 2 ^ 774)
+    below = unfold of_bits neg fits in (record { held = tt; plain = tt }, refl, refl)
 
     above : Number (f64 0x2d30000000000000) × (less (f64 0x2d30000000000000) ≡ 0) × (plus (f64 0x2d30000000000000) ≡ 2 ^ 774)
     above = unfold of_bits fits in (record { held = tt; plain = tt }, refl, refl)
@@ -52,10 +55,10 @@ not_small {t} n h = go (lt (f64 0xad30000000000000) t) refl (lt t (f64 0x2d30000
     from_above : (p n q k w : ℕ) → k ≡ 0 → q ≡ w → q + n ≤ p + k → w ≤ p + n
     from_above p n q k w e f h = omega arith
 
-    go : (x : Bool) → lt (f64 0xad30000000000000) t ≡ x → (y : Bool) → lt t (f64 0x2d30000000000000) ≡ y → (x && y) ≡ false → 2 ^ 774 ≤ mag t
+    go : (x : Bool) → lt (neg (f64 0x2d30000000000000)) t ≡ x → (y : Bool) → lt t (f64 0x2d30000000000000) ≡ y → (x && y) ≡ false → 2 ^ 774 ≤ mag t
     go true e true f h = absurd (true≢false h)
     go true e false f h = from_above (plus t) (less t) (plus (f64 0x2d30000000000000)) (less (f64 0x2d30000000000000)) (2 ^ 774) above.1 above.2 (units_of_not_lt n above.0 f)
-    go false e y f h = from_below (plus t) (less t) (plus (f64 0xad30000000000000)) (less (f64 0xad30000000000000)) (2 ^ 774) below.1 below.2 (units_of_not_lt below.0 n e)
+    go false e y f h = from_below (plus t) (less t) (plus (neg (f64 0x2d30000000000000))) (less (neg (f64 0x2d30000000000000))) (2 ^ 774) below.1 below.2 (units_of_not_lt below.0 n e)
 
 -- what is not 0 is not -0, and its nearest whole number with +0 in the place of -0 leaves the same
 pub plus_zero_lem : (t : Float) → 0 < mag t → t ⊖ (nearest_whole t ⊕ plus_zero) ≡ t ⊖ nearest_whole t
@@ -94,6 +97,18 @@ signed (fin s m e) h = record { sign = s; has = refl }
 -- t, as the tests leave it
 pub bounded : (t : Float) → T (fits binary64 t) → T (le (fin true 31 (pos 2)) t) → T (le t (fin false 31 (pos 2))) → Bound S (124 * 2 ^ 53) t
 bounded t f g h = middle_bound (record { held = f; plain = between_finite (fin true 31 (pos 2)) t (fin false 31 (pos 2)) tt tt g h }) (is_true _ g) (is_true _ h)
+
+-- not below -124 and not above 124, and not tiny
+pub middle_of : (t : Float) → T (fits binary64 t) → T (finite t) → lt t (fin true 31 (pos 2)) ≡ false → lt (fin false 31 (pos 2)) t ≡ false → is_tiny t ≡ false → Middle t
+unfolding fits
+middle_of t f p g h a =
+    let n : Number t = record { held = f; plain = p } in
+    let low : Number (fin true 31 (pos 2)) = record { held = tt; plain = tt } in
+    let high : Number (fin false 31 (pos 2)) = record { held = tt; plain = tt } in
+    record { least = le_of_units (fin true 31 (pos 2)) t low n (units_of_not_lt n low g); most = le_of_units t (fin false 31 (pos 2)) n high (units_of_not_lt high n h); apart = a }
+
+-- what proves `plain_found`
+pub ruleset ends = (is_minus_124, is_124, middle_of)
 
 -- between the edges k can be cast, and what is left of t has a power
 module _ (t : Float) (f : T (fits binary64 t)) (edges : InsideEdges t) where
@@ -136,14 +151,36 @@ module _ (t : Float) (b : Bound S (124 * 2 ^ 53) t) where
   rest_fits = sub-fits binary64 (part_of t) (entry compoundf_exp2_t (power_index (part_of t)))
 
   -- clear of the switches
-  pub switch_bounds : clear_of_switches (part_of t) (rest_of t) ≡ true → Bound S (2 ^ 52 - 2 ^ 23) (part_of t) × Bound S (2 ^ 47 - 2 ^ 23) (rest_of t)
-  unfolding clear_of_switches clear_of_index of_bits neg
+  pub switch_bounds : clear_of_switches switch_gap (part_of t) (rest_of t) ≡ true → Bound S (2 ^ 52 - 2 ^ 23) (part_of t) × Bound S (2 ^ 47 - 2 ^ 23) (rest_of t)
+  unfolding of_bits sub neg
   switch_bounds e =
-      let o = four (le (part_of t) part_end) (le (neg part_end) (part_of t)) (le (rest_of t) rest_end) (le (neg rest_end) (rest_of t)) e in
-      (part_bound (of_tests (part_of t) (neg part_end) part_end part_fits tt tt o.1 o.0) o.0 o.1, rest_bound (of_tests (rest_of t) (neg rest_end) rest_end rest_fits tt tt o.3 o.2) o.2 o.3)
+      let o = four (le (part_of t) (part_end switch_gap)) (le (neg (part_end switch_gap)) (part_of t)) (le (rest_of t) (rest_end switch_gap)) (le (neg (rest_end switch_gap)) (rest_of t)) e in
+      (part_bound (of_tests (part_of t) (neg (part_end switch_gap)) (part_end switch_gap) part_fits tt tt o.1 o.0) o.0 o.1, rest_bound (of_tests (rest_of t) (neg (rest_end switch_gap)) (rest_end switch_gap) rest_fits tt tt o.3 o.2) o.2 o.3)
 
-  pub plain_range : clear_of_switches (part_of t) (rest_of t) ≡ true → (898 * 2 ^ 52 ≤ scaled (plain_pattern t) (to_signed 63 (nearest_whole t))) × (scaled (plain_pattern t) (to_signed 63 (nearest_whole t)) < 1148 * 2 ^ 52)
+  pub plain_range : clear_of_switches switch_gap (part_of t) (rest_of t) ≡ true → (898 * 2 ^ 52 ≤ scaled (plain_pattern t) (to_signed 63 (nearest_whole t))) × (scaled (plain_pattern t) (to_signed 63 (nearest_whole t)) < 1148 * 2 ^ 52)
   plain_range e =
       let o = switch_bounds e in
       let s = signed t b.number.plain in
       scaled_range (plain_pattern t) (to_signed 63 (nearest_whole t)) (power_beside s.sign t t s.has s.has b.number (apart_at (2 ^ 20) (apart_same t) tt) b o.0 o.1).plain whole_within
+
+-- ---- what proves `in_two_steps`
+module _ (t : Float) (f : T (fits binary64 t)) (m : Middle t) where
+  start : Bound S (124 * 2 ^ 53) t
+  start = bounded t f m.least m.most
+
+  pub splits_above : T (lt (fin true 75 (pos 1)) t)
+  splits_above = subst T (sym (edges_of start).above) tt
+
+  pub splits_below : T (lt t (fin false 1 (pos 7)))
+  splits_below = subst T (sym (edges_of start).below) tt
+
+  pub splits_other : eq t Special.zero ≡ false
+  splits_other = not_zero t (lt_of_lt_of_le (lit< tt) (not_small start.number m.apart))
+
+  pub plain_least : clear_of_switches switch_gap (part_of t) (rest_of t) ≡ true → 898 * 2 ^ 52 ≤ scaled (plain_pattern t) (to_signed 63 (nearest_whole t))
+  plain_least e = (plain_range t start e).0
+
+  pub plain_below : clear_of_switches switch_gap (part_of t) (rest_of t) ≡ true → scaled (plain_pattern t) (to_signed 63 (nearest_whole t)) < 1148 * 2 ^ 52
+  plain_below e = (plain_range t start e).1
+
+pub ruleset two_steps = (splits_above, splits_below, splits_other, plain_least, plain_below)

@@ -1,14 +1,13 @@
 -- For a t' of at most 2^-14 in size: k is 0 for t and for t', the index is 16, so that neither changes anything, and the patterns of the two powers are 64 from each other at most (`patterns_near`). Where the plain one is
 -- at most 2^11 from a midpoint of two f32s, the fast path's rounding test fails (`near_right`). Assumes nothing.
-use Rattle.std.proofs.Common.{◌≡◌, ℕ, ◌+◌, ◌-◌, ◌*◌, ◌%◌, ◌^◌, ◌<◌, ◌≤◌, Bool, true, false, cond, ◌&&◌, leb, ℤ, pos, sym, refl, ap, ◌∙◌, subst, ap₂, arith, lit<, leb-true}
-use lib.Ieee.{Float, fin, binary64, round, fits, of_bits, to_bits, to_signed, le}
+use Rattle.std.proofs.Common.{◌≡◌, ℕ, ◌+◌, ◌-◌, ◌*◌, ◌%◌, ◌^◌, ◌<◌, ◌≤◌, Bool, true, false, cond, not, ◌&&◌, ltb, ℤ, pos, sym, refl, ap, ◌∙◌, subst, ap₂, arith, lit<, ltb-false, Some, None}
+use lib.Ieee.{Float, fin, binary64, round, fits, of_bits, to_bits, to_signed, neg, le}
 use Rattle.floats.specs.Operations.{◌⊖◌, ◌⊗◌, f64}
 use Rattle.floats.specs.Narrowing.{nearest_whole}
 use Rattle.floats.proofs.Laws.Units.{HasSign}
 use Rattle.tables.specs.Tables.{entry, pair_entry, from_bit_pair, compoundf_exp2_t, compoundf_exp2_u, expf_poly_q}
 use Rattle.fast_path.specs.Scaling.{scaled}
-use Rattle.fast_path.specs.Fast.{power_index, compoundf_expf_poly, exp2_reduced, rounding_test, exp2_fast}
-use Rattle.fast_path.specs.declared.Exp2.TheVariants.{Failed}
+use Rattle.fast_path.specs.Fast.{power_index, expf_poly, compoundf_expf_poly, exp2_reduced, rounding_test, exp2_fast}
 use Rattle.fast_path.proofs.Coefficients.{expf_first, expf_sizes}
 use Rattle.fast_path.proofs.Midpoints.{near_midpoint_lem}
 use Rattle.fast_path.proofs.PowerSlot.{power_nearest}
@@ -19,10 +18,10 @@ use Rattle.bounds.proofs.Apart.{apart_same, apart_turned, differences_apart, pro
 use Rattle.bounds.proofs.Compared.{Positive, positive_at, positive_bound, positive_near, positive_mul, tested_positive, bits_apart}
 use Rattle.bounds.proofs.Nearest.{whole_shared}
 use Rattle.bounds.proofs.OwnScale.{Nil, nil_bound}
-use Rattle.filter.specs.declared.Found.TheVariants.{Slow, Unsure}
+use Rattle.filter.specs.declared.Found.TheVariants.{Slow}
 use Rattle.filter.specs.Plain.{plain_expf_poly, part_of, rest_of, plain_pattern, nearness, near_midpoint}
 use Rattle.filter.specs.Right.{Inside, Right}
-use Rattle.filter.proofs.Limits.{between_bound}
+use Rattle.filter.proofs.Limits.{end_bound}
 use Rattle.filter.proofs.Polynomial.{fast_poly}
 use Rattle.filter.proofs.Power.{Unscaled, unscaled}
 use Rattle.filter.proofs.Times.{TimesBeside}
@@ -77,7 +76,7 @@ record PolyNear (p p' : Float) : Type 0 where
   near : Apart S 43 p p'
 
 poly_near : {z z' : Float} → Bound S (2 ^ 40) z → Bound S (2 ^ 40) z' → Apart S 5 z z' → PolyNear (compoundf_expf_poly z) (plain_expf_poly z')
-unfolding compoundf_expf_poly plain_expf_poly
+unfolding expf_poly
 poly_near {z} {z'} b b' d =
     let one = unit_left unit in
     let Q0 = positive_bound expf_first in
@@ -209,7 +208,7 @@ module _ (s : Bool) (t t' : Float) (sign : HasSign s t) (sign' : HasSign s t') (
   scaled_plain : scaled (plain_pattern t') (to_signed 63 (nearest_whole t')) ≡ plain_pattern t'
   scaled_plain = ap (λ (x : Float). scaled (plain_pattern t') (to_signed 63 x)) k_of' ∙ ap (scaled (plain_pattern t')) (cast_zero s) ∙ unscaled_same (plain_pattern t') (in_range (plain_pattern t') patterns_near.plain)
 
-  pub test_fails : (scaled (plain_pattern t') (to_signed 63 (nearest_whole t')) + (0x10000000 + nearness)) % 0x20000000 ≤ 2 * nearness → exp2_fast t ≡ Failed
+  pub test_fails : (scaled (plain_pattern t') (to_signed 63 (nearest_whole t')) + (0x10000000 + nearness)) % 0x20000000 ≤ 2 * nearness → exp2_fast t ≡ None
   unfolding exp2_fast part_of
   test_fails h =
       let p = patterns_near in
@@ -222,14 +221,8 @@ module _ (s : Bool) (t t' : Float) (sign : HasSign s t) (sign' : HasSign s t') (
       both w w' g h t = omega arith
 
 -- ---- what the tests say of t'
-small_bound : {t' : Float} → Number t' → le t' (f64 0x3f10000000000000) ≡ true → le (f64 0xbf10000000000000) t' ≡ true → Bound S (2 ^ 39) t'
-small_bound n g h = between_bound (2 ^ 39) low high n h g
-  where
-    low : Bound S (2 ^ 39) (f64 0xbf10000000000000)
-    low = unfold of_bits fits in tested (2 ^ 39) (f64 0xbf10000000000000) tt
-
-    high : Bound S (2 ^ 39) (f64 0x3f10000000000000)
-    high = unfold of_bits fits in tested (2 ^ 39) (f64 0x3f10000000000000) tt
+small_bound : {t' : Float} → Number t' → le t' (f64 0x3f10000000000000) ≡ true → le (neg (f64 0x3f10000000000000)) t' ≡ true → Bound S (2 ^ 39) t'
+small_bound n g h = end_bound (2 ^ 39) (f64 0x3f10000000000000) (unfold of_bits fits in tested (2 ^ 39) (f64 0x3f10000000000000) tt) n g h
 
 -- t is 33 / 2^45 of that from it
 close : {t t' : Float} → TimesBeside t t' → Bound S (2 ^ 39) t' → Apart S 1 t t'
@@ -247,13 +240,13 @@ close {t} {t'} b m = record {
 pub near_right : (s : Bool) (t t' : Float) → HasSign s t → HasSign s t' → TimesBeside t t' → Inside t → Right (near_midpoint t' (scaled (plain_pattern t') (to_signed 63 (nearest_whole t')))) t
 unfolding near_midpoint
 near_right s t t' sign sign' b inside =
-    go (le t' (f64 0x3f10000000000000)) refl (le (f64 0xbf10000000000000) t') refl (leb ((scaled (plain_pattern t') (to_signed 63 (nearest_whole t')) + (0x10000000 + nearness)) % 0x20000000) (2 * nearness)) refl
+    go (le t' (f64 0x3f10000000000000)) refl (le (neg (f64 0x3f10000000000000)) t') refl (ltb (2 * nearness) ((scaled (plain_pattern t') (to_signed 63 (nearest_whole t')) + (0x10000000 + nearness)) % 0x20000000)) refl
   where
-    go : (x : Bool) → le t' (f64 0x3f10000000000000) ≡ x → (y : Bool) → le (f64 0xbf10000000000000) t' ≡ y → (z : Bool) → leb ((scaled (plain_pattern t') (to_signed 63 (nearest_whole t')) + (0x10000000 + nearness)) % 0x20000000) (2 * nearness) ≡ z
-        → Right (cond ((x && y) && z) Slow Unsure) t
-    go true e true f true g =
+    go : (x : Bool) → le t' (f64 0x3f10000000000000) ≡ x → (y : Bool) → le (neg (f64 0x3f10000000000000)) t' ≡ y → (z : Bool) → ltb (2 * nearness) ((scaled (plain_pattern t') (to_signed 63 (nearest_whole t')) + (0x10000000 + nearness)) % 0x20000000) ≡ z
+        → Right (cond ((x && y) && not z) (Some Slow) None) t
+    go true e true f false g =
         let m = small_bound b.beside e f in
-        record { inside = inside; fails = test_fails s t t' sign sign' b.number (close b m) m (leb-true _ _ g) }
-    go true e true f false g = tt
+        record { inside = inside; fails = test_fails s t t' sign sign' b.number (close b m) m (ltb-false _ _ g) }
+    go true e true f true g = tt
     go true e false f z g = tt
     go false e y f z g = tt

@@ -1,7 +1,7 @@
 -- The nearest 32nd to t at once: 3 * 2^46 + t is rounded to a whole number of 32nds, N of them. Let N and 16 more be 32 * j + i. Where i is above 0 and what is left of t is clear
 -- of the switches of the index, j is k and 3 * 2^46 more, i is the index, and what is left is the same as in two steps (`one_step`). Assumes nothing.
-use Rattle.std.proofs.Common.{◌≡◌, ℕ, zero, suc, ◌+◌, ◌-◌, ◌*◌, ◌/◌, ◌%◌, ◌^◌, ◌<◌, ◌≤◌, min, Bool, true, false, cond, ◌&&◌, ◌⊎◌, ℤ, pos, neg_ℤ, sym, refl, ap, ◌∙◌, subst, ap₂, inl, inr, true≢false, le_trans, le_of_eq, lt_of_le_of_lt, lt_irrefl, mul-le-mul_right, mod-lt, le_antisymm, lt_of_mul-lt-mul_right, mul-pos, mul-one, le_of_mul-le-mul_right, mul-div_cancel, arith, lit<, lit≤}
-use lib.Ieee.{Float, nan, inf, fin, binary64, up, down, fits, neg, sub, le, of_bits, to_bits, to_signed}
+use Rattle.std.proofs.Common.{◌≡◌, ℕ, zero, suc, ◌+◌, ◌-◌, ◌*◌, ◌/◌, ◌%◌, ◌^◌, ◌<◌, ◌≤◌, min, Bool, true, false, not, T, cond, ◌&&◌, ◌⊎◌, ℤ, pos, neg_ℤ, sym, refl, ap, ◌∙◌, subst, ap₂, inl, inr, true≢false, le_trans, le_of_eq, lt_of_lt_of_le, lt_of_le_of_lt, lt_irrefl, mul-le-mul_right, mod-lt, le_antisymm, lt_of_mul-lt-mul_right, mul-pos, mul-one, le_of_mul-le-mul_right, mul-div_cancel, arith, lit<, lit≤}
+use lib.Ieee.{Float, nan, inf, fin, binary64, up, down, fits, is_nan, neg, sub, le, of_bits, to_bits, to_signed}
 use lib.Ieee.Bits.{is_true}
 use lib.Ieee.Exact.{HasValue}
 use lib.Ieee.Fits.{down_pos}
@@ -11,6 +11,7 @@ use Rattle.floats.specs.Narrowing.{nearest_whole}
 use Rattle.floats.proofs.Laws.Sums.{above, under, above_times, under_times, add_turned}
 use Rattle.floats.proofs.Laws.Units.{HasSign, round_has_sign}
 use Rattle.floats.proofs.Laws.Whole.{nearest_whole_exact}
+use Rattle.special.proofs.Rule.{finite_number}
 use Rattle.tables.specs.Tables.{entry, pair_entry, compoundf_exp2_t, compoundf_exp2_u}
 use Rattle.fast_path.specs.Scaling.{scaled}
 use Rattle.fast_path.specs.Fast.{power_index}
@@ -23,11 +24,12 @@ use Rattle.bounds.proofs.Distances.{Apart, apart_at, sub_apart}
 use Rattle.bounds.proofs.Grids.{Grid, Count, Clear, on_grid_clear, count_difference, NotMinusNought, sum_nought, sums_same}
 use Rattle.bounds.proofs.Compared.{Positive, positive_add, positive_at, tested_positive, bits_by_field, le_of_units}
 use Rattle.bounds.proofs.Nearest.{Left, part_exact, whole_bound, whole_value}
-use Rattle.filter.specs.Plain.{plain_expf_poly, part_of, rest_of, plain_pattern, part_end, clear_of_index, clear_of_switches}
+use Rattle.filter.specs.Plain.{plain_expf_poly, part_of, rest_of, plain_pattern, switch_gap, part_end, clear_of_index, clear_of_switches, Middle}
 use Rattle.filter.proofs.Limits.{rest_bound}
 use Rattle.filter.proofs.Power.{part_half}
 use Rattle.filter.proofs.Accepted.{within_more}
-use Rattle.filter.proofs.Middle.{whole_within}
+pub use Rattle.filter.proofs.Middle.{plain_least, plain_below}
+use Rattle.filter.proofs.Middle.{bounded, not_small, whole_within}
 
 -- 1.5 * 2^47
 abbrev pub wide : Float
@@ -197,8 +199,8 @@ digits32 t = to_bits binary64 (wide ⊕ t) + 16
 pub record OneStep (t : Float) : Type 0 where
   pub index : power_index (part_of t) ≡ digits32 t % 32
   pub rest : rest_of t ≡ t ⊖ nearest32nd t
-  pub below : le (part_of t) part_end ≡ true
-  pub above : le (neg part_end) (part_of t) ≡ true
+  pub below : le (part_of t) (part_end switch_gap) ≡ true
+  pub above : le (neg (part_end switch_gap)) (part_of t) ≡ true
   pub k : lifted (to_signed 63 (nearest_whole t)) % 4096 ≡ digits32 t / 32 % 4096
 
 module _ (t : Float) (b : Bound S (124 * 2 ^ 53) t) where
@@ -364,16 +366,16 @@ module _ (t : Float) (b : Bound S (124 * 2 ^ 53) t) where
     one_step = record {
       index = index ∙ sym index_is;
       rest = rest;
-      below = is_true _ (le_of_units (t ⊖ nearest_whole t) part_end part_is.number end.0 (up (plus (t ⊖ nearest_whole t)) (less (t ⊖ nearest_whole t)) (plus part_end) (less part_end) S end.1 end.2 o.0));
-      above = is_true _ (le_of_units (neg part_end) (t ⊖ nearest_whole t) (neg_number end.0) part_is.number (down_to (plus (t ⊖ nearest_whole t)) (less (t ⊖ nearest_whole t)) (plus (neg part_end)) (less (neg part_end)) S (neg_plus part_end ∙ end.2) (neg_less part_end ∙ end.1) o.1));
+      below = is_true _ (le_of_units (t ⊖ nearest_whole t) (part_end switch_gap) part_is.number end.0 (up (plus (t ⊖ nearest_whole t)) (less (t ⊖ nearest_whole t)) (plus (part_end switch_gap)) (less (part_end switch_gap)) S end.1 end.2 o.0));
+      above = is_true _ (le_of_units (neg (part_end switch_gap)) (t ⊖ nearest_whole t) (neg_number end.0) part_is.number (down_to (plus (t ⊖ nearest_whole t)) (less (t ⊖ nearest_whole t)) (plus (neg (part_end switch_gap))) (less (neg (part_end switch_gap))) S (neg_plus (part_end switch_gap) ∙ end.2) (neg_less (part_end switch_gap) ∙ end.1) o.1));
       k = ap (λ (z : ℤ). lifted z % 4096) (lifted_value (nearest_whole t) k.sign k.size k.value k_most) ∙ last_digits k.sign k.size j k_most (k_is beside) ∙ sym k_digits;
     }
       where
         o : (plus (t ⊖ nearest_whole t) ≤ less (t ⊖ nearest_whole t) + 31 * 2 ^ 47 * S) × (less (t ⊖ nearest_whole t) ≤ plus (t ⊖ nearest_whole t) + 31 * 2 ^ 47 * S)
         o = part_most beside _ _ part_is.is
 
-        end : Number part_end × (plus part_end ≡ (2 ^ 52 - 2 ^ 23) * S) × (less part_end ≡ 0)
-        end = unfold of_bits fits S in (record { held = tt; plain = tt }, refl, refl)
+        end : Number (part_end switch_gap) × (plus (part_end switch_gap) ≡ (2 ^ 52 - 2 ^ 23) * S) × (less (part_end switch_gap) ≡ 0)
+        end = unfold of_bits fits sub S in (record { held = tt; plain = tt }, refl, refl)
 
         up : (v w p n s : ℕ) → p ≡ (2 ^ 52 - 2 ^ 23) * s → n ≡ 0 → v ≤ w + 31 * 2 ^ 47 * s → v + n ≤ p + w
         up v w p n s e d h = omega arith
@@ -392,15 +394,13 @@ two : (u v : Bool) → (u && v) ≡ true → (u ≡ true) × (v ≡ true)
 two true v e = (refl, e)
 two false v e = absurd (true≢false (sym e))
 
-module _ (t : Float) (b : Bound S (124 * 2 ^ 53) t) (big : 0 < mag t) (some : 0 < digits32 t % 32) (clear : clear_of_index (t ⊖ nearest32nd t) ≡ true) where
+module _ (t : Float) (b : Bound S (124 * 2 ^ 53) t) (big : 0 < mag t) (some : 0 < digits32 t % 32) (clear : clear_of_index switch_gap (t ⊖ nearest32nd t) ≡ true) where
   step : OneStep t
-  unfolding clear_of_index
   step =
       let o = two _ _ clear in
       one_step t b some big (rest_bound (sub_bound b (nearest_bound t b) tt).number o.0 o.1)
 
-  pub clear_of_both : clear_of_switches (part_of t) (rest_of t) ≡ true
-  unfolding clear_of_switches
+  pub clear_of_both : clear_of_switches switch_gap (part_of t) (rest_of t) ≡ true
   clear_of_both = rw (step.below, step.above, step.rest, clear) refl
 
   pub same_pattern : (v : ℕ) → v ≡ to_bits binary64 ((pair_entry compoundf_exp2_u (digits32 t % 32)).hi ⊗ plain_expf_poly (t ⊖ nearest32nd t))
@@ -411,3 +411,31 @@ module _ (t : Float) (b : Bound S (124 * 2 ^ 53) t) (big : 0 < mag t) (some : 0 
       ∙ ap (λ (n : ℕ). (n + lifted (to_signed 63 (nearest_whole t)) % 4096 * 2 ^ 52) % 2 ^ 64)
       (e ∙ ap (λ (n : ℕ). to_bits binary64 ((pair_entry compoundf_exp2_u n).hi ⊗ plain_expf_poly (t ⊖ nearest32nd t))) (sym step.index) ∙ ap (λ (x : Float). to_bits binary64 ((pair_entry compoundf_exp2_u (power_index (part_of t))).hi ⊗ plain_expf_poly x)) (sym step.rest))
       ∙ lifted_sum (plain_pattern t) (to_signed 63 (nearest_whole t)) (within_more (to_signed 63 (nearest_whole t)) (whole_within t b))
+
+-- ---- what proves `middle_found`
+pub is_wide : of_bits binary64 0x42e8000000000000 ≡ wide
+unfolding of_bits
+is_wide = refl
+
+module _ (t : Float) (f : T (fits binary64 t)) (m : Middle t) where
+  start : Bound S (124 * 2 ^ 53) t
+  start = bounded t f m.least m.most
+
+  nonzero : 0 < mag t
+  nonzero = lt_of_lt_of_le (lit< tt) (not_small start.number m.apart)
+
+  pub wide_number : T (not (is_nan (wide ⊕ t)))
+  unfolding is_nan
+  wide_number = finite_number (wide ⊕ t) (sum_range t start).number.plain
+
+  pub wide_fits : digits32 t < 2 ^ 64
+  wide_fits = digits_fit t start
+
+  module _ (some : 0 < digits32 t % 32) (clear : clear_of_index switch_gap (t ⊖ nearest32nd t) ≡ true) where
+    pub clear_at_once : clear_of_switches switch_gap (part_of t) (rest_of t) ≡ true
+    clear_at_once = clear_of_both t start nonzero some clear
+
+    pub pattern_at_once : (to_bits binary64 ((pair_entry compoundf_exp2_u (digits32 t % 32)).hi ⊗ plain_expf_poly (t ⊖ nearest32nd t)) + digits32 t / 32 % 4096 * 2 ^ 52) % 2 ^ 64 ≡ scaled (plain_pattern t) (to_signed 63 (nearest_whole t))
+    pattern_at_once = same_pattern t start nonzero some clear _ refl
+
+pub ruleset at_once = (is_wide, wide_number, wide_fits, clear_at_once, pattern_at_once, plain_least, plain_below)

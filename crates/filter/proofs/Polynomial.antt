@@ -3,7 +3,7 @@
 use Rattle.std.proofs.Common.{◌+◌, ◌*◌, ◌^◌}
 use lib.Ieee.{Float}
 use Rattle.tables.specs.Tables.{entry, expf_poly_q}
-use Rattle.fast_path.specs.Fast.{compoundf_expf_poly}
+use Rattle.fast_path.specs.Fast.{expf_poly, compoundf_expf_poly}
 use Rattle.bounds.proofs.Scales.{S, unit, unit_left, Bound, at, add_bound, mul_bound, fmla_bound}
 use Rattle.bounds.proofs.Distances.{Apart, apart_at, apart_through, fmla_apart}
 use Rattle.bounds.proofs.Apart.{apart_same, product_apart, fmla_aside}
@@ -13,7 +13,7 @@ use Rattle.filter.specs.Plain.{plain_expf_poly}
 
 -- the fast path's, wherever the index leaves z
 pub fast_poly : {z : Float} → Bound S (2 ^ 48 + 2 ^ 40) z → Positive (7 * 2 ^ 50) (9 * 2 ^ 50) (compoundf_expf_poly z)
-unfolding compoundf_expf_poly
+unfolding expf_poly
 fast_poly {z} b =
     let one = unit_left unit in
     let Q0 = positive_bound expf_first in
@@ -30,7 +30,7 @@ pub record PolyBeside (p p' : Float) : Type 0 where
   pub near : Apart S 735488 p p'
 
 pub poly_beside : {z z' : Float} → Bound S (2 ^ 47) z → Bound S (2 ^ 47) z' → Apart S (2 ^ 20 + 512) z z' → PolyBeside (compoundf_expf_poly z) (plain_expf_poly z')
-unfolding compoundf_expf_poly plain_expf_poly
+unfolding expf_poly
 poly_beside {z} {z'} b b' d =
     let one = unit_left unit in
     let Q0 = positive_bound expf_first in

@@ -1,26 +1,31 @@
 -- What the filter finds of the plain t' is right of t = l×y as the fast path has it (`plain_right`): at the edges by how near the two are, and between them by the nearness of the two powers. Assumes
 -- nothing.
-use Rattle.std.proofs.Common.{◌≡◌, ℕ, ◌+◌, ◌-◌, ◌*◌, ◌/◌, ◌%◌, ◌^◌, ◌<◌, ◌≤◌, Bool, true, false, cond, ◌&&◌, ltb, ◌⊎◌, pos, refl, ap, ◌∙◌, inl, inr, le_trans, le_of_eq, lt_of_lt_of_le, add-zero, mul_assoc, zero-add, arith, lit<, lit≤, ltb-true}
+use Rattle.std.proofs.Common.{◌≡◌, ℕ, ◌+◌, ◌-◌, ◌*◌, ◌/◌, ◌%◌, ◌^◌, ◌<◌, ◌≤◌, Bool, true, false, cond, ◌&&◌, ltb, ◌⊎◌, T, pos, Option, sym, subst, refl, ap, ◌∙◌, inl, inr, le_trans, le_of_eq, lt_of_lt_of_le, add-zero, mul_assoc, zero-add, arith, lit<, lit≤, ltb-true, Some, None}
+use lib.Ieee.Scale.{finite}
 use lib.Ieee.{Float, fin, binary32, fits, of_bits, to_signed, le, lt, eq}
-use Rattle.floats.specs.Operations.{◌⊖◌, f64}
+use Rattle.floats.specs.Operations.{◌⊖◌, ◌⊗◌, f64}
 use Rattle.floats.specs.Narrowing.{nearest_whole}
 use Rattle.floats.proofs.Laws.Units.{HasSign}
+use Rattle.special.specs.Operands.{Tabled}
 use Rattle.special.specs.Special as Special
 use Rattle.fast_path.specs.Scaling.{scaled}
-use Rattle.fast_path.specs.Fast.{exp2_reduced, rounding_test, exp2_fast}
+use Rattle.fast_path.specs.Fast.{compoundf_log2p1_fast, exp2_reduced, rounding_test, exp2_fast}
 use Rattle.bounds.proofs.Values.{plus, less, mag, one_side, Number}
 use Rattle.bounds.proofs.Scales.{S, Bound, at}
 use Rattle.bounds.proofs.Distances.{Apart, bound_near}
 use Rattle.bounds.proofs.Compared.{le_true, units_of_not_lt}
 use Rattle.bounds.proofs.Nearest.{sign_above, sign_below}
-use Rattle.filter.specs.declared.Found.TheVariants.{Fast, Slow, Low, High, One, Unsure}
-use Rattle.filter.specs.Plain.{part_of, rest_of, plain_pattern, margin, near_midpoint, rounded_pattern, clear_of_switches, middle_found, low_edge, slow_from, slow_to, low_found, high_edge, high_found, tiny_found, is_tiny, plain_found}
+use Rattle.filter.specs.declared.Found.{Found}
+use Rattle.filter.specs.declared.Found.TheVariants.{Slow, Low, High, One}
+use Rattle.filter.specs.Midpoints.{narrowed_pattern}
+use Rattle.filter.specs.Plain.{plain_log2p1, part_of, rest_of, plain_pattern, margin, switch_gap, near_midpoint, fast_or, rounded_pattern, clear_of_switches, middle_found, low_edge, slow_from, slow_to, low_found, high_edge, high_found, tiny_found, is_tiny, plain_found}
 use Rattle.filter.specs.Right.{Inside, Passed, Right}
 use Rattle.filter.proofs.Limits.{middle_bound}
 use Rattle.filter.proofs.Power.{PowerBeside, power_beside}
 use Rattle.filter.proofs.Accepted.{Accepted, accepted}
 use Rattle.filter.proofs.Middle.{not_small, whole_within, switch_bounds}
-use Rattle.filter.proofs.Times.{TimesBeside}
+use Rattle.filter.proofs.Logarithm.{log_beside}
+use Rattle.filter.proofs.Times.{single, TimesBeside, times_beside}
 use Rattle.filter.proofs.Near.{near_right}
 use Rattle.filter.proofs.Edges.{one_pos, not_low, not_high, not_tiny, low_edge_lem, high_edge_lem, at_one, below_normals}
 
@@ -97,7 +102,7 @@ module _ (t t' : Float) (b : TimesBeside t t') (m : Bound S (124 * 2 ^ 53) t') (
       large p n q k x y h i j = at_half p n q k (2 ^ 773) x y (le_trans (lit≤ tt) h) (half (p + k) (n + q) (q + k) i) (half (n + q) (p + k) (q + k) j)
 
   -- clear of the switches and of the midpoints
-  module _ (clear : clear_of_switches (part_of t') (rest_of t') ≡ true) (apart : 2 * margin < (scaled (plain_pattern t') (to_signed 63 (nearest_whole t')) + (0x10000000 + margin)) % 0x20000000) where
+  module _ (clear : clear_of_switches switch_gap (part_of t') (rest_of t') ≡ true) (apart : 2 * margin < (scaled (plain_pattern t') (to_signed 63 (nearest_whole t')) + (0x10000000 + margin)) % 0x20000000) where
     powers : PowerBeside t t'
     powers =
         let o = switch_bounds t' m clear in
@@ -116,11 +121,11 @@ module _ (t t' : Float) (b : TimesBeside t t') (m : Bound S (124 * 2 ^ 53) t') (
     }
 
   middle_right : Right (middle_found t') t
-  unfolding middle_found rounded_pattern
-  middle_right = go (clear_of_switches (part_of t') (rest_of t')) refl (ltb (2 * margin) ((scaled (plain_pattern t') (to_signed 63 (nearest_whole t')) + (0x10000000 + margin)) % 0x20000000)) refl
+  unfolding middle_found rounded_pattern narrowed_pattern
+  middle_right = go (clear_of_switches switch_gap (part_of t') (rest_of t')) refl (ltb (2 * margin) ((scaled (plain_pattern t') (to_signed 63 (nearest_whole t')) + (0x10000000 + margin)) % 0x20000000)) refl
     where
-      go : (x : Bool) → clear_of_switches (part_of t') (rest_of t') ≡ x → (y : Bool) → ltb (2 * margin) ((scaled (plain_pattern t') (to_signed 63 (nearest_whole t')) + (0x10000000 + margin)) % 0x20000000) ≡ y
-          → Right (cond x (cond y (Fast (of_bits binary32 ((scaled (plain_pattern t') (to_signed 63 (nearest_whole t')) + 0x10000000) / 0x20000000 - 0x1c0000000))) (near_midpoint t' (scaled (plain_pattern t') (to_signed 63 (nearest_whole t'))))) Unsure) t
+      go : (x : Bool) → clear_of_switches switch_gap (part_of t') (rest_of t') ≡ x → (y : Bool) → ltb (2 * margin) ((scaled (plain_pattern t') (to_signed 63 (nearest_whole t')) + (0x10000000 + margin)) % 0x20000000) ≡ y
+          → Right (cond x (fast_or (cond y (Some (of_bits binary32 ((scaled (plain_pattern t') (to_signed 63 (nearest_whole t')) + 0x10000000) / 0x20000000 - 0x1c0000000))) None) (near_midpoint t' (scaled (plain_pattern t') (to_signed 63 (nearest_whole t'))))) None) t
       go true e true f = passed e (ltb-true _ _ f)
       go true e false f = near_right signs.sign t t' signs.has signs.plain_has b inside
       go false e y f = tt
@@ -130,7 +135,7 @@ low_right : {t t' : Float} → TimesBeside t t' → Right (low_found t') t
 unfolding low_found
 low_right {t} {t'} b = go (le t' low_edge) refl (le t' slow_to) refl (le slow_from t') refl
   where
-    go : (x : Bool) → le t' low_edge ≡ x → (y : Bool) → le t' slow_to ≡ y → (z : Bool) → le slow_from t' ≡ z → Right (cond x Low (cond (y && z) Slow Unsure)) t
+    go : (x : Bool) → le t' low_edge ≡ x → (y : Bool) → le t' slow_to ≡ y → (z : Bool) → le slow_from t' ≡ z → Right (cond x (Some Low) (cond (y && z) (Some Slow) None)) t
     go true e y f z g = low_edge_lem b e
     go false e true f true g = below_normals b f g
     go false e true f false g = tt
@@ -140,7 +145,7 @@ high_right : {t t' : Float} → TimesBeside t t' → Right (high_found t') t
 unfolding high_found
 high_right {t} {t'} b = go (le high_edge t') refl
   where
-    go : (x : Bool) → le high_edge t' ≡ x → Right (cond x High Unsure) t
+    go : (x : Bool) → le high_edge t' ≡ x → Right (cond x (Some High) None) t
     go true e = high_edge_lem b e
     go false e = tt
 
@@ -148,7 +153,7 @@ tiny_right : {t t' : Float} → TimesBeside t t' → Right (tiny_found t') t
 unfolding tiny_found
 tiny_right {t} {t'} b = go (eq t' Special.zero) refl
   where
-    go : (x : Bool) → eq t' Special.zero ≡ x → Right (cond x One Unsure) t
+    go : (x : Bool) → eq t' Special.zero ≡ x → Right (cond x (Some One) None) t
     go true e = at_one b e
     go false e = tt
 
@@ -169,3 +174,15 @@ plain_right {t} {t'} b = go (lt t' (fin true 31 (pos 2))) refl (lt (fin false 31
     go false e false f true g = tiny_right b
     go false e false f false g =
         middle_right t t' b (middle_bound b.beside (le_true low b.beside (units_of_not_lt b.beside low e)) (le_true b.beside high (units_of_not_lt high b.beside f))) (not_small b.beside g)
+
+-- ---- what proves `filtered`
+beside : (x y : Float) → Tabled x y → TimesBeside (compoundf_log2p1_fast x ⊗ y) (plain_log2p1 x ⊗ y)
+beside x y a = times_beside (log_beside x a.base.x_fits a.base.x_finite a.base.x_above) (single y a.y_fits a.y_finite)
+
+pub finite_product : (x y : Float) → Tabled x y → T (finite (plain_log2p1 x ⊗ y))
+finite_product x y a = (beside x y a).beside.plain
+
+pub right : (x y : Float) (r : Option Found) → Tabled x y → r ≡ plain_found (plain_log2p1 x ⊗ y) → Right r (compoundf_log2p1_fast x ⊗ y)
+right x y r a e = subst (λ (f : Option Found). Right f (compoundf_log2p1_fast x ⊗ y)) (sym e) (plain_right (beside x y a))
+
+pub ruleset filtered = (finite_product, right)

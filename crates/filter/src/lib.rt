@@ -7,27 +7,60 @@
 // proofs/Power.antt, proofs/Near.antt).
 #![tactic(auto)]
 
-ghost use Rattle.std.specs.Prelude.{◌≡◌, ◌*◌, ◌^◌, ◌<◌, ◌≤◌, true, false, T, pos};
-ghost use Rattle.std.specs.Float.{binary32, fin};
-ghost use Rattle.std.specs.Float.Ieee.{fits, le, lt};
+ghost use Rattle.std.specs.Prelude.{◌≡◌, ◌*◌, ◌^◌, ◌<◌, ◌≤◌, T};
 ghost use Rattle.std.specs.Float.Ieee.Scale.{finite};
 ghost use Rattle.floats.specs.Operations.{◌⊗◌};
-ghost use Rattle.special.specs.Special.{minus_one};
 ghost use Rattle.fast_path.specs.Fast.{compoundf_log2p1_fast};
 ghost use Rattle.filter.specs.Plain as spec;
 ghost use Rattle.filter.specs.Right.{Right};
 
-use crate::plain::{plain_log2p1, plain_power};
-use fast_path::power_index;
+use crate::midpoints::{clear_of_midpoints, narrowed_pattern};
+use crate::plain::Plain;
+use crate::split::{Split, clear_of_index};
+use fast_path::evaluation::{log2p1, power};
 use fast_path::scaling::scaled;
-use floats::rounding::round_ties_even_small;
-use tables::compoundf_exp2_t;
+use floats::common::is_within;
+use special::operands::Operands;
 
+pub mod midpoints;
 pub mod plain;
+pub mod split;
+
+// A pattern that is further than this from every midpoint of two f32s settles the answer.
+const MARGIN: u64 = 0x10_8000;
+
+// One that is at most as far as this from a midpoint, and next to 1, settles that the rounding test
+// fails.
+const NEARNESS: u64 = 0x800;
+
+// 2^-14: the power of a t of at most this size is next to 1.
+const NEXT_TO: f64 = f64::from_bits(0x3f10_0000_0000_0000);
+
+// 2^-30: further than this from a switch of k or of the index, the fast path's own t is on the same side
+// of it.
+const SWITCH_GAP: f64 = f64::from_bits(0x3e10_0000_0000_0000);
+
+// 2^-300
+const TINY: f64 = f64::from_bits(0x2d30_0000_0000_0000);
+
+// From and to these, the power is near that of t.
+const MIDDLE_FROM: f64 = -124.0;
+
+const MIDDLE_TO: f64 = 124.0;
+
+// At most this, t is at the lower edge.
+const LOW_EDGE: f64 = -151.0;
+
+// From and to these, the value is below the normal f32s.
+const SLOW_FROM: f64 = -149.5;
+
+const SLOW_TO: f64 = -128.0;
+
+// At least this, t is at the upper edge.
+const HIGH_EDGE: f64 = 129.0;
 
 // What is found of a pair: the fast answer; that the fast path fails its tests, so that the answer is
-// the slow one; that t is at the lower edge, at the upper edge, or so small that the answer is 1; or
-// nothing.
+// the slow one; that t is at the lower edge, at the upper edge, or so small that the answer is 1.
 #[derive(Clone, Copy)]
 pub enum Found {
     Fast(f32),
@@ -35,87 +68,52 @@ pub enum Found {
     Low,
     High,
     One,
-    Unsure,
 }
 
-// Slow, where the scaled pattern w is at most 2^11 from a midpoint of two f32s, at which the last 29
-// digits are 2^28, and |t| is at most 2^-14. There the fast path's pattern is at most 64 from w, and its
-// bound on the error is 2280 last places or more, so that the midpoint is between its two bounds.
-fn near_midpoint(t: f64, w: u64) -> Found
+// Slow, where the scaled pattern w is at most 2^11 from a midpoint of two f32s, and |t| is at most 2^-14.
+// There the fast path's pattern is at most 64 from w, and its bound on the error is 2280 last places or
+// more, so that the midpoint is between its two bounds.
+#[tactic(auto, unfolding(crate::specs::Plain::near_midpoint))]
+fn near_midpoint(t: f64, w: u64) -> Option<Found>
     requires { w < 1148 * 2 ^ 52 }
     ensures { result ≡ spec.near_midpoint t w }
 {
-    // 2^-14
-    let small = (t <= f64::from_bits(0x3f10_0000_0000_0000))
-        & (t >= f64::from_bits(0xbf10_0000_0000_0000));
-    if small & ((w + 0x1000_0800) % 0x2000_0000 <= 0x1000) {
-        return Found::Slow;
-    }
-    Found::Unsure
+    (is_within(t, NEXT_TO) & !clear_of_midpoints(w, NEARNESS)).then_some(Found::Slow)
 }
 
-// The answer of the scaled pattern w, where no midpoint of two f32s is near. Of its digits an f32 drops
-// 29, and at a midpoint these are 2^28; 2^20 + 2^15 is the margin on either side, and 896 * 2^23 what the
-// exponents' fields differ by.
-fn rounded_pattern(t: f64, w: u64) -> Found
+// The answer of the scaled pattern w, where no midpoint of two f32s is within 2^20 + 2^15 of it.
+#[tactic(auto, unfolding(crate::specs::Plain::rounded_pattern))]
+fn rounded_pattern(t: f64, w: u64) -> Option<Found>
     requires w_least { 898 * 2 ^ 52 ≤ w }
     requires w_below { w < 1148 * 2 ^ 52 }
     ensures { result ≡ spec.rounded_pattern t w }
 {
-    if (w + 0x1010_8000) % 0x2000_0000 > 0x21_0000 {
-        let n = (w + 0x1000_0000) / 0x2000_0000 - 0x1_c000_0000;
-        return Found::Fast(f32::from_bits(n as u32));
+    match narrowed_pattern(w, MARGIN) {
+        Some(v) => Some(Found::Fast(v)),
+        None => near_midpoint(t, w),
     }
-    near_midpoint(t, w)
-}
-
-// Whether no switch of the index is near.
-fn clear_of_index(rest: f64) -> bool
-    ensures { result ≡ spec.clear_of_index rest }
-{
-    // 1/64 - 2^-30
-    (rest <= f64::from_bits(0x3f8f_ffff_e000_0000))
-        & (rest >= f64::from_bits(0xbf8f_ffff_e000_0000))
-}
-
-// Whether no switch of k or of the index is near.
-fn clear_of_switches(part: f64, rest: f64) -> bool
-    ensures { result ≡ spec.clear_of_switches part rest }
-{
-    // 1/2 - 2^-30
-    let of_k = (part <= f64::from_bits(0x3fdf_ffff_ff00_0000))
-        & (part >= f64::from_bits(0xbfdf_ffff_ff00_0000));
-    of_k & clear_of_index(rest)
 }
 
 // For t from -124 to 124 that is not tiny, in two steps: the nearest whole number, and the nearest 32nd
 // to what is left.
-fn in_two_steps(t: f64) -> Found
-    requires t_least { T (le (fin true 31 (pos 2)) t) }
-    requires t_most { T (le t (fin false 31 (pos 2))) }
-    requires not_tiny { spec.is_tiny t ≡ false }
+#[tactic(auto, using(crate::proofs::Middle::two_steps), unfolding(crate::specs::Plain::middle_found, crate::specs::Plain::plain_pattern))]
+fn in_two_steps(t: f64) -> Option<Found>
+    requires { spec.Middle t }
     ensures { result ≡ spec.middle_found t }
 {
-    let k = round_ties_even_small(t);
-    let part = t - k;
-    let i = power_index(part);
-    // This never happens; the test tells the compiler the range, so that the tables need none.
-    if i > 32 {
-        return Found::Unsure;
+    let s = Split::of(t);
+    if s.is_clear(SWITCH_GAP) {
+        rounded_pattern(t, scaled(s.power(), s.k))
+    } else {
+        None
     }
-    let rest = part - compoundf_exp2_t(i);
-    if clear_of_switches(part, rest) {
-        return rounded_pattern(t, scaled(plain_power(i, rest), k as i64));
-    }
-    Found::Unsure
 }
 
 // The same in one step, where the nearest 32nd is not halfway between two whole numbers and no switch of
 // the index is near.
-fn middle_found(t: f64) -> Found
-    requires t_least { T (le (fin true 31 (pos 2)) t) }
-    requires t_most { T (le t (fin false 31 (pos 2))) }
-    requires not_tiny { spec.is_tiny t ≡ false }
+#[tactic(auto, using(crate::proofs::OneStep::at_once), unfolding(crate::specs::Plain::middle_found))]
+fn middle_found(t: f64) -> Option<Found>
+    requires { spec.Middle t }
     ensures { result ≡ spec.middle_found t }
 {
     // 1.5 * 2^47, so that the sum is rounded to a whole number of 32nds, and its pattern ends in them
@@ -124,80 +122,73 @@ fn middle_found(t: f64) -> Found
     // with 16 more they are 32 * k and the index
     let n = f64::to_bits(sum) + 16;
     let i = n % 32;
-    if (i > 0) & clear_of_index(rest) {
-        let power = plain_power(i, rest);
+    if (i > 0) & clear_of_index(rest, SWITCH_GAP) {
+        let power = power::<Plain>(i, rest);
         let field = n / 32 % 0x1000 * 0x10_0000_0000_0000;
-        return rounded_pattern(t, std::num::wrapping_add_u64(power, field));
+        rounded_pattern(t, power.wrapping_add(field))
+    } else {
+        in_two_steps(t)
     }
-    in_two_steps(t)
 }
 
 // For t below -124.
-fn low_found(t: f64) -> Found
+#[tactic(auto, using(crate::proofs::Limits::edges), unfolding(crate::specs::Plain::low_found))]
+fn low_found(t: f64) -> Option<Found>
     ensures { result ≡ spec.low_found t }
 {
-    if t <= -151.0 {
-        return Found::Low;
+    if t <= LOW_EDGE {
+        Some(Found::Low)
+    } else {
+        ((t <= SLOW_TO) & (t >= SLOW_FROM)).then_some(Found::Slow)
     }
-    if (t <= -128.0) & (t >= -149.5) {
-        return Found::Slow;
-    }
-    Found::Unsure
 }
 
 // For t above 124.
-fn high_found(t: f64) -> Found
+#[tactic(auto, using(crate::proofs::Limits::edges), unfolding(crate::specs::Plain::high_found))]
+fn high_found(t: f64) -> Option<Found>
     ensures { result ≡ spec.high_found t }
 {
-    if t >= 129.0 {
-        return Found::High;
-    }
-    Found::Unsure
+    (t >= HIGH_EDGE).then_some(Found::High)
 }
 
 // For |t| below 2^-300.
-fn tiny_found(t: f64) -> Found
+#[tactic(auto, unfolding(crate::specs::Plain::tiny_found))]
+fn tiny_found(t: f64) -> Option<Found>
     ensures { result ≡ spec.tiny_found t }
 {
-    if t == 0.0 {
-        return Found::One;
-    }
-    Found::Unsure
+    (t == 0.0).then_some(Found::One)
 }
 
 // Whether |t| is below 2^-300.
+#[tactic(auto, unfolding(crate::specs::Plain::is_tiny))]
 fn is_tiny(t: f64) -> bool
     ensures { result ≡ spec.is_tiny t }
 {
-    (t > f64::from_bits(0xad30_0000_0000_0000)) & (t < f64::from_bits(0x2d30_0000_0000_0000))
+    (t > -TINY) & (t < TINY)
 }
 
 // For the t of the plain logarithm.
-fn plain_found(t: f64) -> Found
+#[tactic(auto, using(crate::proofs::Middle::ends), unfolding(crate::specs::Plain::plain_found))]
+fn plain_found(t: f64) -> Option<Found>
     requires { T (finite t) }
     ensures { result ≡ spec.plain_found t }
 {
-    if t < -124.0 {
-        return low_found(t);
+    if t < MIDDLE_FROM {
+        low_found(t)
+    } else if t > MIDDLE_TO {
+        high_found(t)
+    } else if is_tiny(t) {
+        tiny_found(t)
+    } else {
+        middle_found(t)
     }
-    if t > 124.0 {
-        return high_found(t);
-    }
-    if is_tiny(t) {
-        return tiny_found(t);
-    }
-    middle_found(t)
 }
 
-// What is found of x and y, the f64s of two finite f32s.
-pub fn filtered(x: f64, y: f64) -> Found
-    requires x_fits { T (fits binary32 x) }
-    requires x_finite { T (finite x) }
-    requires x_above { T (lt minus_one x) }
-    requires y_fits { T (fits binary32 y) }
-    requires y_finite { T (finite y) }
-    ensures { Right result (compoundf_log2p1_fast x ⊗ y) }
+// What is found of x and y.
+#[tactic(auto, using(crate::proofs::Settled::filtered))]
+pub fn filtered(pair: Operands) -> Option<Found>
+    ensures { Right result (compoundf_log2p1_fast pair.x ⊗ pair.y) }
 {
-    let l = plain_log2p1(x);
-    plain_found(l * y)
+    let l = log2p1::<Plain>(pair.x);
+    plain_found(l * pair.y)
 }

@@ -1,7 +1,6 @@
--- Laws of the kit's account of IEEE 754, each stated once over the format where it holds for both. The first fifteen are for every crate above;
+-- Laws of the kit's account of IEEE 754, each stated once over the format where it holds for both. The first fourteen are for every crate above;
 -- the last five say why the functions of this crate are right.
 pub mod Tests  -- a choice by a test whose outcome is known
-pub mod Arms  -- the arms of a `match` over numbers, and the entry of a table that each gives
 pub mod Nan  -- which values and patterns are a NaN's
 pub mod Closest  -- the nearest whole number to a fraction
 pub mod Place  -- the pattern of a magnitude, and of a rounded fraction

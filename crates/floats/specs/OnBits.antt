@@ -1,7 +1,7 @@
 -- Document 01, "Forms of the Rust with no home in Rattle": "`abs` and `is_integerf` are worked out on bits". Here they are by value.
-use Rattle.std.specs.Prelude.{zero, suc, ◌*◌, ◌%◌, Bool, true, false, ◌==◌, Float}
+use Rattle.std.specs.Prelude.{zero, suc, ◌*◌, ◌%◌, Bool, true, false, ◌&&◌, ◌==◌, Float}
 use Rattle.std.specs.Float.{nan, inf, fin}
-use Rattle.std.specs.Float.Ieee.{up, down}
+use Rattle.std.specs.Float.Ieee.{up, down, neg, le}
 
 -- |x|: the same size with the sign clear
 unfoldable pub absolute : Float → Float
@@ -16,3 +16,7 @@ is_integer nan = true
 is_integer (inf s) = true
 is_integer (fin s zero e) = false
 is_integer (fin s (suc m) e) = suc m * up e % down e == 0
+
+-- whether x is from -limit to limit
+abbrev pub within : Float → Float → Bool
+within limit x = le x limit && le (neg limit) x

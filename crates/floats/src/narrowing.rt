@@ -1,52 +1,57 @@
-// Widening f32 to f64, and narrowing f64 to f32. The language's `as` is defined only where it
-// loses nothing, so narrowing is worked out from the bits.
-ghost use Rattle.std.specs.Prelude.{◌≡◌, ◌≤◌, from_bits, to_bits};
+// Narrowing f64 to f32. The language's `as` is defined only where it loses nothing, so narrowing is
+// worked out from the bits.
+ghost use Rattle.std.specs.Prelude.{◌≡◌, ◌≤◌, not, T, from_bits, is_nan, to_bits};
 ghost use Rattle.std.specs.Float.{binary32, binary64};
 ghost use Rattle.floats.specs.Narrowing.{narrowed, NearestF32Ends};
 
-// The f64 of the same value. A NaN gives the NaN.
-pub fn widen(x: f32) -> f64
-    ensures { result ≡ x }
-{
-    std::num::f32_to_f64_with_nan(x)
-}
-
 // The nearest f32, ties to even, with subnormals, overflow to infinity and the sign of zero kept. A
-// NaN gives the NaN.
+// NaN gives the NaN. `std::num::nearest_f64_to_f32_with_nan` has the same values, but takes three times
+// as long: it finds the digits by shifts, with branches on the size.
 pub fn narrow(x: f64) -> f32
     ensures { result ≡ narrowed x }
 {
-    if x != x {
-        return 0.0 / 0.0;
+    if x.is_nan() {
+        f32::NAN
+    } else {
+        narrow_number(x)
     }
+}
+
+// The same of an x that is no NaN, with no branch: the size of x could not be foreseen.
+pub fn narrow_number(x: f64) -> f32
+    requires { T (not (is_nan x)) }
+    ensures { result ≡ narrowed x }
+{
     let n = f64::to_bits(x);
     let p = narrow_magnitude(n % 0x8000_0000_0000_0000);
     f32::from_bits((n / 0x8000_0000_0000_0000 * 0x8000_0000 + p) as u32)
 }
 
 // The pattern of the narrowed value, for the pattern m of an f64 that is no NaN and whose sign is
-// clear.
+// clear. Two patterns are worked out, one for values below 2^-126 and one for those from it up, and
+// the right one is taken.
 fn narrow_magnitude(m: u64) -> u64
     requires { m ≤ 0x7ff0_0000_0000_0000 }
     ensures { result ≡ to_bits binary32 (narrowed (from_bits binary64 m)) }
 {
-    if m < 0x3810_0000_0000_0000 {
-        // Below 2^-126 the last place of an f32 is 2^-149. That of an f64 from 2^-97 to 2^-96 is
-        // the same, so the sum with 2^-97 is rounded where the f32 is.
-        let sum = f64::from_bits(m) + f64::from_bits(0x39e0_0000_0000_0000);
-        return f64::to_bits(sum) - 0x39e0_0000_0000_0000;
-    }
+    // Below 2^-126 the last place of an f32 is 2^-149. That of an f64 from 2^-97 to 2^-96 is the
+    // same, so the sum with 2^-97 is rounded where the f32 is.
+    let sum = f64::from_bits(m) + f64::from_bits(0x39e0_0000_0000_0000);
+    let low = std::num::wrapping_sub_u64(f64::to_bits(sum), 0x39e0_0000_0000_0000);
     // Of the 52 digits 23 are kept: add half a last place less one, and one more if the last kept
     // digit is odd, and cut. A carry runs into the exponent's field, which is less by 896.
-    let p = (m + 0xfff_ffff + m / 0x2000_0000 % 2) / 0x2000_0000 - 0x1_c000_0000;
-    if p < 0x7f80_0000 {
-        return p;
+    let kept = (m + 0xfff_ffff + m / 0x2000_0000 % 2) / 0x2000_0000;
+    let high = std::num::wrapping_sub_u64(kept, 0x1_c000_0000);
+    if m < 0x3810_0000_0000_0000 {
+        return low;
     }
-    0x7f80_0000
+    // and from 2^128 up it is the infinity
+    high.min(0x7f80_0000)
 }
 
 // The nearest f32 to a positive fraction: from 2^128 - 2^103 up it is infinity, and below that it is
 // finite. There is nothing to run: the contract is the theorem.
+#[tactic(auto, using(crate::proofs::Laws::Overflow::nearest_f32_ends))]
 pub fn nearest_f32_ends()
     ensures { NearestF32Ends }
 {}

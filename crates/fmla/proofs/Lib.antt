@@ -1,5 +1,4 @@
 -- The laws that the proofs of this crate cite.
-pub mod Tests
 pub mod Order
 pub mod Lo
 pub mod Settled

@@ -9,7 +9,7 @@ use native.Mathlib.Omega.{arith}
 use lib.Dec.{T, lit≤, lit<}
 use lib.IntN.{pos}
 use lib.Pow.{pow_pos}
-use lib.Ieee.{Float, nan, inf, fin, binary64, fits, le}
+use lib.Ieee.{Float, nan, inf, fin, binary64, neg, fits, le}
 use lib.Ieee.Fits.{and_l, and_r}
 use lib.Ieee.Scale.{finite}
 use Rattle.floats.specs.Operations.{◌⊕◌, ◌⊗◌}
@@ -25,7 +25,7 @@ use Rattle.fmla.specs.Fmla.{is_moderate, relative_part, absolute_part, lo_bound}
 
 -- ---- a moderate factor
 moderate_finite : (x : Float) → T (is_moderate x) → T (finite x)
-unfolding is_moderate le
+unfolding is_moderate le neg
 moderate_finite nan t = absurd t
 moderate_finite (inf true) t = absurd t
 moderate_finite (inf false) t = absurd t
@@ -37,7 +37,7 @@ pub record Sized (x : Float) : Type 0 where
   pub size : mag x ≤ 2 ^ 1474
 
 pub moderate_sized : (x : Float) → T (fits binary64 x) → T (is_moderate x) → Sized x
-unfolding is_moderate
+unfolding is_moderate neg
 moderate_sized x f t =
     let high = fin false 1 (pos 400) in
     let low = fin true 1 (pos 400) in

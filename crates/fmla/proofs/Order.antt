@@ -1,41 +1,19 @@
--- The order of any two f64s, the infinities among them: of three the first is at most the last (`le_through`), and a finite term on both sides keeps it (`add_keeps`). Two numbers with the same
--- parts, not both 0, are the same f64 (`same_float`). Assumes nothing.
+-- The order of any two f64s, the infinities among them: a finite term on both sides keeps it (`add_keeps`). Two numbers with the same parts, not both 0, are the same f64 (`same_float`). Assumes nothing.
 use mathlib.Core.Path.{◌≡◌, refl, sym, ap, subst}
 use mathlib.Core.Bool.{Bool, true, false, not}
 use Prim.Native.Nat.{ℕ, ◌+◌, ◌*◌, ◌^◌, ◌<◌}
-use native.Mathlib.Nat.{le_trans}
 use native.Mathlib.Omega.{arith}
-use lib.Dec.{T, leb→le, le→leb}
+use lib.Dec.{T}
 use lib.IntN.{ℤ}
 use lib.Pow.{pow_pos}
-use lib.Ieee.{Float, nan, inf, fin, binary64, add, le, fits, is_nan, to_bits}
+use lib.Ieee.{Float, nan, inf, fin, binary64, add, le, fits, is_nan}
 use lib.Ieee.Exact.{HasValue}
 use lib.Ieee.Scale.{finite}
 use Rattle.floats.specs.Operations.{◌⊕◌}
-use Rattle.floats.proofs.Laws.Compare.{key, le_by_key}
 use Rattle.floats.proofs.Laws.Rounding.{same_value}
 use Rattle.floats.proofs.Laws.Sums.{add_number, add_mono_left}
 use Rattle.floats.proofs.Laws.Units.{exponent, in_units}
 use Rattle.bounds.proofs.Values.{plus, less, mag, Number, of_numbers}
-
--- what has an order is no NaN
-pub number_of_le : (x y : Float) → T (le x y) → T (not (is_nan x)) × T (not (is_nan y))
-unfolding le is_nan
-number_of_le nan y h = absurd h
-number_of_le (inf s) nan h = absurd h
-number_of_le (inf s) (inf t) h = (tt, tt)
-number_of_le (inf s) (fin t n d) h = (tt, tt)
-number_of_le (fin s m e) nan h = absurd h
-number_of_le (fin s m e) (inf t) h = (tt, tt)
-number_of_le (fin s m e) (fin t n d) h = (tt, tt)
-
-pub le_through : (x y z : Float) → T (fits binary64 x) → T (fits binary64 y) → T (fits binary64 z) → T (le x y) → T (le y z) → T (le x z)
-le_through x y z p q r g h =
-    let n = number_of_le x y g in
-    let m = number_of_le y z h in
-    let k : Float → ℕ = λ v. key binary64 (to_bits binary64 v) in
-    subst T (sym (le_by_key binary64 x z p r n.0 m.1))
-    (le→leb (k x) (k z) (le_trans (leb→le (k x) (k y) (subst T (le_by_key binary64 x y p q n.0 n.1) g)) (leb→le (k y) (k z) (subst T (le_by_key binary64 y z q r m.0 m.1) h))))
 
 -- the infinities are the ends
 under_all : (x : Float) → T (not (is_nan x)) → T (le (inf true) x)

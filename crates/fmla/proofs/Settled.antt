@@ -17,8 +17,9 @@ use Rattle.double_double.specs.DoubleDouble.{from_exact_mult, from_full_exact_ad
 use Rattle.bounds.proofs.Values.{per_one, plus, less, mag, one_side, Number, neg_plus, neg_less, neg_number, product_in_units}
 use Rattle.bounds.proofs.Operation.{Same, add_exact}
 use Rattle.bounds.proofs.Compared.{le_units, le_of_units}
-use Rattle.fmla.specs.Fmla.{is_moderate, sum_error, lo_bound, stays}
-use Rattle.fmla.proofs.Order.{number_of_le, le_through, add_keeps, finite_between, same_float}
+use Rattle.fmla.specs.Fmla.{is_moderate, lo_bound, stays}
+use Rattle.std.proofs.lemmas.Float.{le_left, le_right, le_trans}
+use Rattle.fmla.proofs.Order.{add_keeps, finite_between, same_float}
 use Rattle.fmla.proofs.Lo.{moderate_sized, Within, product, lo_within}
 
 -- ---- a NaN and an infinity do not pass
@@ -28,9 +29,13 @@ add_nan nan = refl
 add_nan (inf s) = refl
 add_nan (fin s m e) = refl
 
+-- the lo of `from_full_exact_add`, for the sum s of h and c
+abbrev sum_error : Float → Float → Float → Float
+sum_error h c s = c ⊖ (s ⊖ h) ⊕ (h ⊖ (s ⊖ (s ⊖ h)))
+
 -- the error of a sum that overflows is a NaN
 error_of_infinity : (h c : Float) (u : Bool) → T (finite h) → sum_error h c (inf u) ≡ nan
-unfolding sum_error sub add neg
+unfolding sub add neg
 error_of_infinity nan c u p = absurd p
 error_of_infinity (inf s) c u p = absurd p
 error_of_infinity (fin s m e) c true p = add_nan (c ⊖ inf true)
@@ -38,11 +43,11 @@ error_of_infinity (fin s m e) c false p = add_nan (c ⊖ inf false)
 
 nan_fails : (d s : Float) → T (le (d ⊕ nan ⊕ s) s) → ⊥
 unfolding add is_nan
-nan_fails d s t = (number_of_le (nan ⊕ s) s (subst (λ (x : Float). T (le (x ⊕ s) s)) (add_nan d) t)).0
+nan_fails d s t = le_left (nan ⊕ s) s (subst (λ (x : Float). T (le (x ⊕ s) s)) (add_nan d) t)
 
 sum_finite : (h c d s : Float) → T (finite h) → T (le (d ⊕ sum_error h c s ⊕ s) s) → T (finite s)
 unfolding is_nan
-sum_finite h c d nan p t = absurd (number_of_le (d ⊕ sum_error h c nan ⊕ nan) nan t).1
+sum_finite h c d nan p t = absurd (le_right (d ⊕ sum_error h c nan ⊕ nan) nan t)
 sum_finite h c d (inf u) p t = absurd (nan_fails d (inf u) (subst (λ (x : Float). T (le (d ⊕ x ⊕ inf u) (inf u))) (error_of_infinity h c u p) t))
 sum_finite h c d (fin u k i) p t = tt
 
@@ -77,7 +82,7 @@ module _ (s e d L : Float) (p : Number s) (q : Number e) (w : Within L d) (upper
       let r = s ⊕ d ⊕ s in
       let v = beside_nought s d p w.number z in
       let keeps : T (le (s ⊕ d) (d ⊕ e)) = subst (λ (x : Float). T (le (s ⊕ d) x)) (add_turned binary64 e d) (add_keeps d s e w.number.plain (le_of_units s e p q (under (plus s) (less s) (plus e) (less e) z h))) in
-      let t = le_through r (d ⊕ e ⊕ s) s (add-fits binary64 (s ⊕ d) s) (add-fits binary64 (d ⊕ e) s) p.held (add_keeps s (s ⊕ d) (d ⊕ e) p.plain keeps) upper in
+      let t = le_trans r (d ⊕ e ⊕ s) s (add_keeps s (s ⊕ d) (d ⊕ e) p.plain keeps) upper in
       over (plus s) (less s) (plus d) (less d) (plus r) (less r) z v.plus_same v.less_same w.clear w.positive (le_units r s v.number p t)
     where
       under : (p n q m : ℕ) → p + n ≡ 0 → m ≤ q → p + m ≤ q + n
@@ -93,7 +98,7 @@ module _ (s e d L : Float) (p : Number s) (q : Number e) (w : Within L d) (upper
       let n = neg_number w.number in
       let v = beside_nought s (neg d) p n z in
       let keeps : T (le (e ⊖ d) (s ⊕ neg d)) = add_keeps (neg d) e s n.plain (le_of_units e s q p (under (plus s) (less s) (plus e) (less e) z h)) in
-      let t = le_through s (e ⊖ d ⊕ s) r p.held (add-fits binary64 (e ⊖ d) s) (add-fits binary64 (s ⊕ neg d) s) lower (add_keeps s (e ⊖ d) (s ⊕ neg d) p.plain keeps) in
+      let t = le_trans s (e ⊖ d ⊕ s) r lower (add_keeps s (e ⊖ d) (s ⊕ neg d) p.plain keeps) in
       over (plus s) (less s) (plus d) (less d) (plus r) (less r) z (v.plus_same ∙ neg_plus d) (v.less_same ∙ neg_less d) w.clear w.positive (le_units s r p v.number t)
     where
       under : (p n q m : ℕ) → p + n ≡ 0 → q ≤ m → q + n ≤ p + m
@@ -122,7 +127,7 @@ module _ (s e d L : Float) (p : Number s) (q : Number e) (w : Within L d) (upper
   -- ---- the definition's result is s
   at_most_s : T (le (L ⊕ e ⊕ s) s)
   at_most_s =
-      le_through (L ⊕ e ⊕ s) (d ⊕ e ⊕ s) s (add-fits binary64 (L ⊕ e) s) (add-fits binary64 (d ⊕ e) s) p.held
+      le_trans (L ⊕ e ⊕ s) (d ⊕ e ⊕ s) s
       (add_keeps s (L ⊕ e) (d ⊕ e) p.plain (add_keeps e L d q.plain (le_of_units L d w.lo_number w.number (under (plus L) (less L) (plus d) (less d) w.clear w.covers)))) upper
     where
       under : (p n q m : ℕ) → m ≡ 0 → p + n ≤ q → p + m ≤ q + n
@@ -134,7 +139,7 @@ module _ (s e d L : Float) (p : Number s) (q : Number e) (w : Within L d) (upper
       let n = neg_number w.number in
       let keeps : T (le (e ⊖ d) (L ⊕ e)) = subst (λ (x : Float). T (le x (L ⊕ e))) (add_turned binary64 (neg d) e)
       (add_keeps e (neg d) L q.plain (le_of_units (neg d) L n w.lo_number (over (plus L) (less L) (plus d) (less d) (plus (neg d)) (less (neg d)) (neg_plus d) (neg_less d) w.clear w.covers))) in
-      le_through s (e ⊖ d ⊕ s) (L ⊕ e ⊕ s) p.held (add-fits binary64 (e ⊖ d) s) (add-fits binary64 (L ⊕ e) s) lower (add_keeps s (e ⊖ d) (L ⊕ e) p.plain keeps)
+      le_trans s (e ⊖ d ⊕ s) (L ⊕ e ⊕ s) lower (add_keeps s (e ⊖ d) (L ⊕ e) p.plain keeps)
     where
       over : (p n q m r l : ℕ) → r ≡ m → l ≡ q → m ≡ 0 → p + n ≤ q → r + n ≤ p + l
       over p n q m r l e d c h = omega arith
@@ -160,16 +165,15 @@ product_number a b f g p q =
     subst (λ (x : Float). T (not (is_nan x))) (sym r.is) (round_number binary64 r.sign (mag a * mag b) (per_one * per_one))
 
 error_fits : (h c s : Float) → T (fits binary64 (sum_error h c s))
-unfolding sum_error
 error_fits h c s = add-fits binary64 (c ⊖ (s ⊖ h)) (h ⊖ (s ⊖ (s ⊖ h)))
 
-definition_is : (a b c : Float) → (from_exact_mult a b).lo ⊕ sum_error (a ⊗ b) c (a ⊗ b ⊕ c) ⊕ (a ⊗ b ⊕ c) ≡ dd_fmla a b c
-unfolding sum_error dd_fmla full_add_f64 from_full_exact_add from_exact_mult
+definition_is : (a b c : Float) → (from_exact_mult a b).lo ⊕ (from_full_exact_add (a ⊗ b) c).lo ⊕ (a ⊗ b ⊕ c) ≡ dd_fmla a b c
+unfolding dd_fmla full_add_f64 from_full_exact_add from_exact_mult
 definition_is a b c = refl
 
 pub settled : (a b c : Float) → T (fits binary64 a) → T (fits binary64 b) → T (is_moderate a) → T (is_moderate b)
-    → T (stays (a ⊗ b ⊕ c) (sum_error (a ⊗ b) c (a ⊗ b ⊕ c)) (lo_bound (a ⊗ b))) → a ⊗ b ⊕ c ≡ dd_fmla a b c
-unfolding stays
+    → (let s = from_full_exact_add (a ⊗ b) c in T (stays s.hi s.lo (lo_bound (a ⊗ b))) → s.hi ≡ dd_fmla a b c)
+unfolding stays from_full_exact_add
 settled a b c f g p q t =
     let A = moderate_sized a f p in
     let B = moderate_sized b g q in

@@ -1,23 +1,14 @@
 -- The tests by which `fmla` does without Dekker's product, as they are written. That they suffice is proved in proofs/Settled.antt; the contract of `fmla` itself does not
 -- cite them.
-use Rattle.std.specs.Prelude.{Bool, true, false, ◌&&◌, pos, negsuc, Float}
+use Rattle.std.specs.Prelude.{Bool, false, ◌&&◌, pos, negsuc, Float}
 use Rattle.std.specs.Float.{fin}
 use Rattle.std.specs.Float.Ieee.{le}
 use Rattle.floats.specs.Operations.{◌⊕◌, ◌⊖◌, ◌⊗◌}
-use Rattle.floats.specs.OnBits.{absolute}
+use Rattle.floats.specs.OnBits.{absolute, within}
 
 -- from -2^400 to 2^400
 unfoldable pub is_moderate : Float → Bool
-is_moderate x = le x (fin false 1 (pos 400)) && le (fin true 1 (pos 400)) x
-
--- the lo of `from_full_exact_add` of h and c, for their sum s
-unfoldable pub sum_error : Float → Float → Float → Float
-sum_error h c s =
-    let t1 = s ⊖ h in
-    let t2 = s ⊖ t1 in
-    let t3 = c ⊖ t1 in
-    let t4 = h ⊖ t2 in
-    t3 ⊕ t4
+is_moderate x = within (fin false 1 (pos 400)) x
 
 -- 2^-52 + 2^-61
 abbrev pub relative_part : Float

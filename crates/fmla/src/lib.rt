@@ -8,25 +8,15 @@ ghost use Rattle.std.specs.Float.Ieee.{is_nan};
 ghost use Rattle.double_double.specs.DoubleDouble.{dd_fmla};
 ghost use Rattle.fmla.specs.Fmla as spec;
 
-use double_double::dd_fmla;
+use double_double::{DoubleDouble, dd_fmla};
+use floats::common::is_within;
 
 // Whether x is finite and at most 2^400 in size. For two such factors nothing in Dekker's product
 // overflows.
 fn is_moderate(x: f64) -> bool
     ensures { result ≡ spec.is_moderate x }
 {
-    x <= f64::from_bits(0x58f0_0000_0000_0000) && f64::from_bits(0xd8f0_0000_0000_0000) <= x
-}
-
-// The error of the sum s of h and c, by the operations of `from_full_exact_add`.
-fn sum_error(h: f64, c: f64, s: f64) -> f64
-    ensures { result ≡ spec.sum_error h c s }
-{
-    let t1 = s - h;
-    let t2 = s - t1;
-    let t3 = c - t1;
-    let t4 = h - t2;
-    t3 + t4
+    is_within(x, f64::from_bits(0x58f0_0000_0000_0000))
 }
 
 // A bound on the lo of Dekker's product, from the rounded product h.
@@ -40,6 +30,7 @@ fn lo_bound(h: f64) -> f64
 }
 
 // Whether s stays as it is when e and anything from -d to d are added to it.
+#[tactic(auto, unfolding(crate::specs::Fmla::stays))]
 fn stays(s: f64, e: f64, d: f64) -> bool
     ensures { result ≡ spec.stays s e d }
 {
@@ -52,9 +43,9 @@ pub fn fmla(a: f64, b: f64, c: f64) -> f64
 {
     if is_moderate(a) && is_moderate(b) {
         let h = a * b;
-        let s = h + c;
-        if stays(s, sum_error(h, c, s), lo_bound(h)) {
-            return s;
+        let s = DoubleDouble::from_full_exact_add(h, c);
+        if stays(s.hi, s.lo, lo_bound(h)) {
+            return s.hi;
         }
     }
     dd_fmla(a, b, c)

@@ -1,7 +1,7 @@
 -- The format read both ways: every line of it is accepted with its values, and nothing else is. Assumes nothing.
 use borrow.Author.Tests.{eqb-true, le-ltb, eq-eqb}
 use mathlib.Core.Path.{◌≡◌, refl, sym, ◌∙◌, ap}
-use mathlib.Core.Bool.{Bool, true, false, cond, ◌&&◌, true≢false}
+use mathlib.Core.Bool.{Bool, true, false, ◌&&◌}
 use mathlib.Core.List.{List, [], ◌∷◌, ◌++◌, append_assoc, append-nil}
 use Prim.Native.Nat.{ℕ, ◌+◌, ◌≤◌, ◌<◌, ◌^◌}
 use native.Mathlib.Nat.{add_assoc}
@@ -10,26 +10,36 @@ use native.Mathlib.Numerals.{add-one}
 use lib.Dec.{eqb, ltb, lit<, lit≤}
 use lib.ListN.{length, take, drop, get_or, length-append, take-append-drop, drop_of_length-le}
 use lib.Seq.{take_at, drop_at, get_or_at, get_or-drop, drop-drop, drop-cons, drop-append-add}
-use Rattle.text.specs.Bytes.{begins, all, leading}
+use Rattle.std.specs.List.{starts_with, take_while, prefix_len}
+use Rattle.std.proofs.lemmas.Slice.Eq.{starts_is}
+use Rattle.std.proofs.lemmas.Bool.Decides.{Decides-eqb}
+use Rattle.std.proofs.lemmas.List.Sums.{take_while-cons}
+use Rattle.std.proofs.lemmas.List.Folds.{length-prefix_len}
+use Rattle.text.specs.Bytes.{all}
 use Rattle.text.specs.Digits.{places, decimal, hex, is_decimal, is_hex, value}
-use Rattle.lines.specs.Fields.{key_of}
-use Rattle.lines.specs.Format.{longest, largest_id, id_key, x_key, y_key, space, line_of, InRange, Format}
+use Rattle.lines.specs.Format.{pair, longest, largest_id, id_key, x_key, y_key, space, line_of, InRange, Format}
 use Rattle.lines.specs.Format.{id_digits, is_d, has_id, after_id, hex_digits, has_hex, has_x, after_x, has_y, read_line}
-use Rattle.lines.specs.declared.Line.TheVariants.{Pair}
+use Rattle.std.specs.Prelude.{Result, Ok}
+use Rattle.lines.specs.declared.Pair.{Pair}
+use Rattle.lines.specs.declared.Refusal.{Refusal}
 use Rattle.text.proofs.Numerals.{both, sixteen, length_decimal, length_hex, all_decimal, all_hex, places_monotone, value_below}
-use Rattle.lines.proofs.Ids.{is_d_lem, decimal_is_d, decimal_value, value_decimal}
+use Rattle.lines.proofs.Ids.{digits_tested, is_d_lem, decimal_is_d, decimal_value, value_decimal}
 use Rattle.text.proofs.Numerals.{value_hex, hex_value}
 use Rattle.lines.proofs.Reading.{inside}
 
 -- A line of the format is accepted.
 
 -- digits, and then a byte that is none: the digits at the front are these
-leading_all : (test : ℕ → Bool) (ds : List ℕ) (c : ℕ) (rest : List ℕ) → all test ds ≡ true → test c ≡ false → leading test (ds ++ c ∷ rest) ≡ ds
-unfolding leading all
-leading_all test [] c rest a h = rw h refl
-leading_all test (b ∷ ds) c rest a h =
-    let t = both (test b) (all test ds) a in
-    rw (t.0, leading_all test ds c rest t.1 h) refl
+digits_before : (ds : List ℕ) (c : ℕ) (rest : List ℕ) → all is_decimal ds ≡ true → is_decimal c ≡ false → take_while is_decimal (ds ++ c ∷ rest) ≡ ds
+unfolding all
+digits_before [] c rest a h = rw h refl
+digits_before (b ∷ ds) c rest a h =
+    let t = both (is_decimal b) (all is_decimal ds) a in
+    take_while-cons is_decimal b (ds ++ c ∷ rest) ∙ rw (t.0, digits_before ds c rest t.1 h) refl
+
+-- a key, of its byte and `=`
+abbrev key_of : ℕ → List ℕ
+key_of key = key ∷ 61 ∷ []
 
 -- a field of a key and a pattern: it is one, with the pattern's digits, and ends after ten bytes
 module _ (key n : ℕ) (rest : List ℕ) where
@@ -38,7 +48,7 @@ module _ (key n : ℕ) (rest : List ℕ) where
   h_digits = take_at (hex n) rest 8 (length_hex n)
 
   h_has : has_hex (key_of key) (key ∷ 61 ∷ (hex n ++ rest)) ≡ true
-  unfolding has_hex begins
+  unfolding has_hex
   h_has = rw (h_digits, eq-eqb key key refl, length_hex n, all_hex n) refl
 
   h_after : drop 10 (key ∷ 61 ∷ (hex n ++ rest)) ≡ rest
@@ -66,10 +76,10 @@ longest_id = lit≤ tt
 module _ (d x y : ℕ) (r : InRange d x y) where
   id_digits_lem : id_digits (from_id d x y) ≡ decimal d
   unfolding id_digits is_decimal
-  id_digits_lem = leading_all is_decimal (decimal d) space (from_x x y) (all_decimal d) refl
+  id_digits_lem = digits_before (decimal d) space (from_x x y) (all_decimal d) refl
 
   has_id_lem : has_id (from_id d x y) ≡ true
-  unfolding has_id begins
+  unfolding has_id
   has_id_lem = rw (id_digits_lem, decimal_is_d d r.id_range, at) refl
     where
       at : get_or (from_id d x y) (3 + length (decimal d)) 0 ≡ space
@@ -116,7 +126,7 @@ module _ (d x y : ℕ) (r : InRange d x y) where
       append_length : (l : List ℕ) → length (l ++ []) ≡ length l
       append_length l = rw (append-nil l) refl
 
-  read : read_line (from_id d x y) ≡ Pair d x y
+  read : read_line (from_id d x y) ≡ Ok (pair d x y)
   unfolding read_line
   read =
       rw (
@@ -135,38 +145,14 @@ module _ (d x y : ℕ) (r : InRange d x y) where
       )
       refl
 
-  line_accepted : read_line (line_of d x y) ≡ Pair d x y
+  line_accepted : read_line (line_of d x y) ≡ Ok (pair d x y)
   line_accepted = rw (line_parts d x y) read
 
 -- Nothing else is accepted.
 
--- a list that begins with another, and one with the elements at its front that pass a test
-begins_split : (front l : List ℕ) → begins front l ≡ true → l ≡ front ++ drop (length front) l
-unfolding begins
-begins_split [] l h = refl
-begins_split (b ∷ front) [] h = absurd (true≢false (sym h))
-begins_split (b ∷ front) (c ∷ l) h =
-    let t = both (eqb b c) (begins front l) h in
-    rw (sym (eqb-true b c t.0)) (ap (λ (m : List ℕ). b ∷ m) (begins_split front l t.1))
-
-leading_split : (test : ℕ → Bool) (l : List ℕ) → l ≡ leading test l ++ drop (length (leading test l)) l
-unfolding leading
-leading_split test [] = refl
-leading_split test (b ∷ l) = go (test b) (leading_split test l)
-  where
-    go : (t : Bool) → l ≡ leading test l ++ drop (length (leading test l)) l
-        → b ∷ l ≡ cond t (b ∷ leading test l) [] ++ drop (length (cond t (b ∷ leading test l) [])) (b ∷ l)
-    go true e = ap (λ (m : List ℕ). b ∷ m) e
-    go false e = refl
-
-leading_tested : (test : ℕ → Bool) (l : List ℕ) → all test (leading test l) ≡ true
-unfolding leading all
-leading_tested test [] = refl
-leading_tested test (b ∷ l) = go (test b) refl (leading_tested test l)
-  where
-    go : (t : Bool) → test b ≡ t → all test (leading test l) ≡ true → all test (cond t (b ∷ leading test l) []) ≡ true
-    go true e a = rw (e, a) refl
-    go false e a = refl
+-- a list that starts with another
+starts_split : (front l : List ℕ) → starts_with eqb l front ≡ true → l ≡ front ++ drop (length front) l
+starts_split front l h = (starts_is Decides-eqb l front (starts_with eqb l front) refl).0 h
 
 -- a byte that stands at a place, and what follows it
 spaced : (l : List ℕ) (at : ℕ) → eqb (get_or l at 0) space ≡ true → drop at l ≡ space ∷ drop (at + 1) l
@@ -174,11 +160,11 @@ spaced l at h = drop-cons l at 0 (inside l at space (lit< tt) h) ∙ rw (eqb-tru
 
 -- a field of a key and H: the pattern, and what follows
 module _ (key : ℕ) (l : List ℕ) (h : has_hex (key_of key) l ≡ true) where
-  h_tests : ((begins (key_of key) l && eqb (length (hex_digits (key_of key) l)) 8) ≡ true) × (all is_hex (hex_digits (key_of key) l) ≡ true)
+  h_tests : ((starts_with eqb l (key_of key) && eqb (length (hex_digits (key_of key) l)) 8) ≡ true) × (all is_hex (hex_digits (key_of key) l) ≡ true)
   unfolding has_hex
   h_tests = both _ _ h
 
-  h_front : (begins (key_of key) l ≡ true) × (eqb (length (hex_digits (key_of key) l)) 8 ≡ true)
+  h_front : (starts_with eqb l (key_of key) ≡ true) × (eqb (length (hex_digits (key_of key) l)) 8 ≡ true)
   h_front = both _ _ h_tests.0
 
   h_long : length (hex_digits (key_of key) l) ≡ 8
@@ -193,25 +179,25 @@ module _ (key : ℕ) (l : List ℕ) (h : has_hex (key_of key) l ≡ true) where
 
   h_shape : l ≡ key ∷ 61 ∷ (hex (value 16 (hex_digits (key_of key) l)) ++ drop 10 l)
   h_shape =
-      begins_split (key_of key) l h_front.0
+      starts_split (key_of key) l h_front.0
       ∙ ap (λ (m : List ℕ). key ∷ 61 ∷ m) (rw (hex_value (hex_digits (key_of key) l) h_long h_tests.1) h_rest)
 
 -- an id, and what follows it and its space
 module _ (l : List ℕ) (h : has_id l ≡ true) where
-  id_tests : ((begins id_key l && is_d (id_digits l)) ≡ true) × (eqb (get_or l (3 + length (id_digits l)) 0) space ≡ true)
+  id_tests : ((starts_with eqb l id_key && is_d (id_digits l)) ≡ true) × (eqb (get_or l (3 + length (id_digits l)) 0) space ≡ true)
   unfolding has_id
   id_tests = both _ _ h
 
-  id_front : (begins id_key l ≡ true) × (is_d (id_digits l) ≡ true)
+  id_front : (starts_with eqb l id_key ≡ true) × (is_d (id_digits l) ≡ true)
   id_front = both _ _ id_tests.0
 
   id_split : drop 3 l ≡ id_digits l ++ drop (length (id_digits l)) (drop 3 l)
   unfolding id_digits
-  id_split = leading_split is_decimal (drop 3 l)
+  id_split = rw (length-prefix_len is_decimal (drop 3 l)) (sym (take-append-drop (prefix_len is_decimal (drop 3 l)) (drop 3 l)))
 
   id_decimal : all is_decimal (id_digits l) ≡ true
   unfolding id_digits
-  id_decimal = leading_tested is_decimal (drop 3 l)
+  id_decimal = digits_tested (drop 3 l)
 
   id_after : drop (length (id_digits l)) (drop 3 l) ≡ space ∷ after_id l
   unfolding after_id
@@ -219,7 +205,7 @@ module _ (l : List ℕ) (h : has_id l ≡ true) where
 
   id_shape : l ≡ 105 ∷ 100 ∷ 61 ∷ (id_digits l ++ (space ∷ after_id l))
   id_shape =
-      begins_split id_key l id_front.0
+      starts_split id_key l id_front.0
       ∙ ap (λ (m : List ℕ). 105 ∷ 100 ∷ 61 ∷ m) (id_split ∙ ap (λ (m : List ℕ). id_digits l ++ m) id_after)
 
 -- what a line says that is accepted
@@ -233,20 +219,30 @@ record Accepted (l : List ℕ) (d x y : ℕ) : Type 0 where
   y_is : value 16 (hex_digits y_key (after_x (after_id l))) ≡ y
 
 -- of the definition's choice, the only way to a pair
-never : ◌≡◌ {A = ℕ} 0 1 → ⊥
-never z = omega arith
+said : (p q : Pair) → ◌≡◌ {A = Result Pair Refusal} (Ok p) (Ok q) → p ≡ q
+said p q e = cc
 
-accepted : (l : List ℕ) (d x y : ℕ) → read_line l ≡ Pair d x y → Accepted l d x y
+accepted : (l : List ℕ) (d x y : ℕ) → read_line l ≡ Ok (pair d x y) → Accepted l d x y
 unfolding read_line
 accepted l d x y e = by (ltb longest (length l)) (has_id l) (has_x (after_id l)) (has_y (after_x (after_id l))) refl refl refl refl
   where
     by : (t i a b : Bool) → ltb longest (length l) ≡ t → has_id l ≡ i → has_x (after_id l) ≡ a → has_y (after_x (after_id l)) ≡ b → Accepted l d x y
-    by true i a b p q r s = absurd (let f = simp p at e in let z : ◌≡◌ {A = ℕ} 0 1 = cc in never z)
-    by false false a b p q r s = absurd (let f = simp (p, q) at e in let z : ◌≡◌ {A = ℕ} 0 1 = cc in never z)
-    by false true false false p q r s = absurd (let f = simp (p, q, r, s) at e in let z : ◌≡◌ {A = ℕ} 0 1 = cc in never z)
-    by false true false true p q r s = absurd (let f = simp (p, q, r, s) at e in let z : ◌≡◌ {A = ℕ} 0 1 = cc in never z)
-    by false true true false p q r s = absurd (let f = simp (p, q, r, s) at e in let z : ◌≡◌ {A = ℕ} 0 1 = cc in never z)
-    by false true true true p q r s = let f = simp (p, q, r, s) at e in record { short = p; id = q; x_field = r; y_field = s; d_is = cc; x_is = cc; y_is = cc }
+    by true i a b p q r s = let f = simp (p) at e in cc
+    by false false a b p q r s = let f = simp (p, q) at e in cc
+    by false true false false p q r s = let f = simp (p, q, r, s) at e in cc
+    by false true false true p q r s = let f = simp (p, q, r, s) at e in cc
+    by false true true false p q r s = let f = simp (p, q, r, s) at e in cc
+    by false true true true p q r s =
+        let f = said _ _ (simp (p, q, r, s) at e) in
+        record {
+          short = p;
+          id = q;
+          x_field = r;
+          y_field = s;
+          d_is = ap (λ (p : Pair). p.id) f;
+          x_is = ap (λ (p : Pair). p.x) f;
+          y_is = ap (λ (p : Pair). p.y) f;
+        }
 
 module _ (l : List ℕ) (d x y : ℕ) (a : Accepted l d x y) where
   x_tests : (has_hex x_key (after_id l) ≡ true) × (eqb (get_or (after_id l) 10 0) space ≡ true)

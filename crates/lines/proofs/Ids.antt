@@ -1,17 +1,22 @@
 -- The D of a line: digits that are one, and the digits of an id. Assumes nothing.
-use borrow.Author.Tests.{leb-true, ltb-true, ltb-false, eqb-true, eqb-false, le-leb, lt-ltb, eq-eqb, ne_eqb, not-true}
+use borrow.Author.Tests.{leb-true, ltb-true, ltb-false, eqb-true, eqb-false, le-leb, lt-leb, le-ltb, lt-ltb, eq-eqb, ne_eqb, not-true}
 use mathlib.Core.Path.{◌≡◌, refl, sym, ◌∙◌}
-use mathlib.Core.Bool.{Bool, true, false, not, ◌&&◌, ◌||◌, or-true}
+use mathlib.Core.Bool.{Bool, true, false, not, cond, ◌&&◌, ◌||◌, or-true}
 use mathlib.Core.Logic.{◌⊎◌, inl, inr, ⊎_elim}
-use mathlib.Core.List.{List}
-use Prim.Native.Nat.{ℕ, zero, suc, ◌-◌, ◌^◌, ◌≤◌, ◌<◌}
+use mathlib.Core.List.{List, [], ◌∷◌}
+use Prim.Native.Nat.{ℕ, zero, suc, ◌+◌, ◌-◌, ◌*◌, ◌^◌, ◌≤◌, ◌<◌}
 use native.Mathlib.Omega.{arith}
-use native.Mathlib.Nat.{le_trans, lt_of_not-le, pow-le-pow_right}
+use native.Mathlib.Nat.{add_comm, le_trans, lt_of_not-le, pow-le-pow_right}
 use lib.Dec.{eqb, ltb, leb, lit<}
-use lib.ListN.{length, get_or}
+use lib.ListN.{length, get_or, take, drop, drop_of_length-le}
+use Rattle.std.specs.List.{prefix_len, take_while}
+use Rattle.std.specs.Prelude.{Some, None}
 use Rattle.text.specs.Bytes.{all}
-use Rattle.text.specs.Digits.{places, decimal, is_decimal, value}
-use Rattle.text.proofs.Numerals.{both, ten, length_decimal, value_digits, digits_value, value_below, places_positive, below_places, one_place, places_of, no_zero_first, least}
+use Rattle.text.specs.Digits.{places, decimal, is_decimal, value, value_from}
+use native.Mathlib.Numerals.{add-one}
+use lib.Seq.{drop-cons}
+use Rattle.text.proofs.Numerals.{both, ten, low_value, at_least, length_decimal, value_digits, digits_value, value_below, places_positive, below_places, one_place, places_of, no_zero_first, least}
+use Rattle.lines.specs.Fields.{said}
 use Rattle.lines.specs.Format.{largest_id, is_d}
 
 -- digits that are a D, and what these are
@@ -38,6 +43,69 @@ d_is ds d = rw (lt-ltb 0 (length ds) d.some, le-leb (value 10 ds) largest_id d.s
     go : (length ds ≡ 1) ⊎ (get_or ds 0 0 ≡ 48 → ⊥) → (eqb (length ds) 1 || not (eqb (get_or ds 0 0) 48)) ≡ true
     go (inl e) = rw (eq-eqb (length ds) 1 e) refl
     go (inr f) = rw (ne_eqb (get_or ds 0 0) 48 f) (or-true (eqb (length ds) 1))
+
+-- the digits at the front of a list are digits
+pub digits_tested : (l : List ℕ) → all is_decimal (take_while is_decimal l) ≡ true
+unfolding all
+digits_tested [] = refl
+digits_tested (b ∷ l) = go (is_decimal b) refl (digits_tested l)
+  where
+    go : (t : Bool) → is_decimal b ≡ t → all is_decimal (take_while is_decimal l) ≡ true → all is_decimal (take (cond t (1 + prefix_len is_decimal l) 0) (b ∷ l)) ≡ true
+    go true e a = rw (add_comm 1 (prefix_len is_decimal l), add-one (prefix_len is_decimal l), e, a) refl
+    go false e a = refl
+
+-- the code's tests of digits: there are none, or more than one with a zero first; else the number decides
+module _ (ds : List ℕ) where
+  pub no_digit : length ds ≡ 0 → is_d ds ≡ false
+  unfolding is_d
+  no_digit h = rw (le-ltb 0 (length ds) (omega arith)) refl
+
+  pub zero_first : 2 ≤ length ds → get_or ds 0 0 ≡ 48 → is_d ds ≡ false
+  unfolding is_d
+  zero_first h k = rw (lt-ltb 0 (length ds) (omega arith), ne_eqb (length ds) 1 (λ e. omega arith), eq-eqb (get_or ds 0 0) 48 k) refl
+
+  pub one_digit : length ds ≡ 1 → is_d ds ≡ leb (value 10 ds) largest_id
+  unfolding is_d
+  one_digit h = rw (lt-ltb 0 (length ds) (omega arith), eq-eqb (length ds) 1 h) refl
+
+  pub more_digits : 2 ≤ length ds → (get_or ds 0 0 ≡ 48 → ⊥) → is_d ds ≡ leb (value 10 ds) largest_id
+  unfolding is_d
+  more_digits h k = rw (lt-ltb 0 (length ds) (omega arith), ne_eqb (get_or ds 0 0) 48 k, or-true (eqb (length ds) 1)) refl
+
+pub ruleset d_steps = (no_digit, zero_first, one_digit, more_digits)
+
+-- a number and the digits that follow it: one more digit, a number that is too large, and all digits
+all_at : (ds : List ℕ) (i : ℕ) → all is_decimal ds ≡ true → i < length ds → is_decimal (get_or ds i 0) ≡ true
+unfolding all
+all_at [] i a h = absurd (omega arith)
+all_at (b ∷ ds) zero a h = (both (is_decimal b) (all is_decimal ds) a).0
+all_at (b ∷ ds) (suc i) a h = all_at ds i (both (is_decimal b) (all is_decimal ds) a).1 (omega arith)
+
+pub digit_from : (ds : List ℕ) (i : ℕ) → all is_decimal ds ≡ true → i < length ds → 48 ≤ get_or ds i 0
+unfolding is_decimal
+digit_from ds i a h = let b = get_or ds i 0 in leb-true 48 b (both (leb 48 b) (leb b 57) (all_at ds i a h)).0
+
+digit_to : (ds : List ℕ) (i : ℕ) → all is_decimal ds ≡ true → i < length ds → get_or ds i 0 ≤ 57
+unfolding is_decimal
+digit_to ds i a h = let b = get_or ds i 0 in leb-true b 57 (both (leb 48 b) (leb b 57) (all_at ds i a h)).1
+
+pub next_digit : (ds : List ℕ) (i n : ℕ) → all is_decimal ds ≡ true → i < length ds
+    → value_from 10 (n * 10 + (get_or ds i 0 - 48)) (drop (i + 1) ds) ≡ value_from 10 n (drop i ds)
+unfolding value_from
+next_digit ds i n a h = rw (drop-cons ds i 0 h, add-one i, ← low_value (get_or ds i 0) (digit_to ds i a h)) refl
+
+pub too_large : (ds : List ℕ) (i n : ℕ) → all is_decimal ds ≡ true → i < length ds → value_from 10 n (drop i ds) ≡ value 10 ds
+    → largest_id < n * 10 + (get_or ds i 0 - 48) → None ≡ said (leb (value 10 ds) largest_id) (value 10 ds)
+too_large ds i n a h e k =
+    let m = n * 10 + (get_or ds i 0 - 48) in
+    rw (lt-leb (value 10 ds) largest_id (omega (arith, k, e, next_digit ds i n a h, at_least m (drop (i + 1) ds)))) refl
+
+pub all_read : (ds : List ℕ) (i n : ℕ) → length ds ≤ i → value_from 10 n (drop i ds) ≡ value 10 ds → n ≤ largest_id
+    → Some n ≡ said (leb (value 10 ds) largest_id) (value 10 ds)
+unfolding value_from
+all_read ds i n h e k = let f : n ≡ value 10 ds = rw (drop_of_length-le ds h) at e in rw (← f, le-leb n largest_id k) refl
+
+pub ruleset number_steps = (digit_from, next_digit, too_large, all_read)
 
 -- the decimal of an id is a D with its value
 pub value_decimal : (d : ℕ) → d ≤ largest_id → value 10 (decimal d) ≡ d

@@ -1,9 +1,11 @@
 -- Document 01, "Batch lines and the reader's state": the input line, without its line feed, and the refusals 1 to 4.
-use Rattle.std.specs.Prelude.{ℕ, ◌+◌, ◌≤◌, ◌<◌, ◌^◌, ◌≡◌, Bool, not, ◌&&◌, ◌||◌, cond, List, [], ◌∷◌, ◌++◌, eqb, ltb, leb, length, take, drop, get_or}
-use Rattle.text.specs.Bytes.{begins, all, leading}
+use Rattle.std.specs.Prelude.{ℕ, ◌+◌, ◌≤◌, ◌<◌, ◌^◌, ◌≡◌, Bool, not, ◌&&◌, ◌||◌, cond, List, [], ◌∷◌, ◌++◌, Result, Ok, Err, eqb, ltb, leb, length, take, drop, get_or}
+use Rattle.std.specs.List.{starts_with, take_while}
+use Rattle.text.specs.Bytes.{all}
 use Rattle.text.specs.Digits.{decimal, hex, is_decimal, is_hex, value}
-use Rattle.lines.specs.declared.Line.{Line}
-use Rattle.lines.specs.declared.Line.TheVariants.{Pair, TooLong, NoId, NoX, NoY}
+use Rattle.lines.specs.declared.Pair.{Pair}
+use Rattle.lines.specs.declared.Refusal.{Refusal}
+use Rattle.lines.specs.declared.Refusal.TheVariants.{TooLong, NoId, NoX, NoY}
 
 -- "The longest line has 30 bytes before its feed."
 abbrev pub longest : ℕ
@@ -33,7 +35,7 @@ line_of d x y = id_key ++ decimal d ++ (space ∷ x_key) ++ hex x ++ (space ∷ 
 
 -- the digits that follow `id=`
 unfoldable pub id_digits : List ℕ → List ℕ
-id_digits l = leading is_decimal (drop (length id_key) l)
+id_digits l = take_while is_decimal (drop (length id_key) l)
 
 -- digits that are a D: "0 to 65535 in decimal without leading zeros"
 unfoldable pub is_d : List ℕ → Bool
@@ -41,7 +43,7 @@ is_d ds = ltb 0 (length ds) && (eqb (length ds) 1 || not (eqb (get_or ds 0 0) 48
 
 -- whether a line begins with "`id=`, D, a space"; and what follows these
 unfoldable pub has_id : List ℕ → Bool
-has_id l = begins id_key l && is_d (id_digits l) && eqb (get_or l (length id_key + length (id_digits l)) 0) space
+has_id l = starts_with eqb l id_key && is_d (id_digits l) && eqb (get_or l (length id_key + length (id_digits l)) 0) space
 
 unfoldable pub after_id : List ℕ → List ℕ
 after_id l = drop (length id_key + length (id_digits l) + 1) l
@@ -51,7 +53,7 @@ unfoldable pub hex_digits : List ℕ → List ℕ → List ℕ
 hex_digits key l = take 8 (drop (length key) l)
 
 unfoldable pub has_hex : List ℕ → List ℕ → Bool
-has_hex key l = begins key l && eqb (length (hex_digits key l)) 8 && all is_hex (hex_digits key l)
+has_hex key l = starts_with eqb l key && eqb (length (hex_digits key l)) 8 && all is_hex (hex_digits key l)
 
 -- whether what follows begins with "`x=`, H, a space"; and what follows these
 unfoldable pub has_x : List ℕ → Bool
@@ -64,18 +66,21 @@ after_x l = drop (length x_key + 8 + 1) l
 unfoldable pub has_y : List ℕ → Bool
 has_y l = has_hex y_key l && eqb (length l) (length y_key + 8)
 
+-- an id and two patterns, as a line says them
+abbrev pub pair : ℕ → ℕ → ℕ → Pair
+pair d x y = record { id = d; x = x; y = y }
+
 -- what a line says, or why it is refused: "Lines are tried in the order 1 to 4"
-unfoldable pub read_line : List ℕ → Line
+unfoldable pub read_line : List ℕ → Result Pair Refusal
 read_line l =
-    cond (ltb longest (length l)) TooLong
-    (cond (not (has_id l)) NoId
-    (cond (not (has_x (after_id l))) NoX
-    (cond (not (has_y (after_x (after_id l)))) NoY
-    (Pair (value 10 (id_digits l)) (value 16 (hex_digits x_key (after_id l))) (value 16 (hex_digits y_key (after_x (after_id l))))))))
+    cond (ltb longest (length l)) (Err TooLong)
+    (cond (not (has_id l)) (Err NoId)
+    (cond (not (has_x (after_id l))) (Err NoX)
+    (cond (not (has_y (after_x (after_id l)))) (Err NoY)
+    (Ok (pair (value 10 (id_digits l)) (value 16 (hex_digits x_key (after_id l))) (value 16 (hex_digits y_key (after_x (after_id l)))))))))
 
 -- the numbers of the refusals
-unfoldable pub number : Line → ℕ
-number (Pair d x y) = 0
+unfoldable pub number : Refusal → ℕ
 number TooLong = 1
 number NoId = 2
 number NoX = 3
@@ -89,5 +94,5 @@ pub record InRange (d x y : ℕ) : Type 0 where
 
 -- both directions of the format: every line of it is accepted with its values, and nothing else is
 pub record Format : Type 0 where
-  pub accepted : (d x y : ℕ) → InRange d x y → read_line (line_of d x y) ≡ Pair d x y
-  pub nothing_else : (l : List ℕ) (d x y : ℕ) → read_line l ≡ Pair d x y → (l ≡ line_of d x y) × InRange d x y
+  pub accepted : (d x y : ℕ) → InRange d x y → read_line (line_of d x y) ≡ Ok (pair d x y)
+  pub nothing_else : (l : List ℕ) (d x y : ℕ) → read_line l ≡ Ok (pair d x y) → (l ≡ line_of d x y) × InRange d x y

@@ -4,7 +4,8 @@
 
 mod read;
 
-ghost use Rattle.lines.specs.Format.{Format};
+ghost use Rattle.std.specs.Prelude.{◌≡◌};
+ghost use Rattle.lines.specs.Format.{Format, number};
 
 pub use read::read_line;
 
@@ -14,14 +15,30 @@ pub const LONGEST: usize = 30;
 // The largest id.
 pub const LARGEST_ID: u32 = 65535;
 
-// What a line says: the id and the patterns of x and y; or why it is refused, 1 to 4 in this order.
-#[derive(Clone, Copy)]
-pub enum Line {
-    Pair(u32, u32, u32),
-    TooLong,
+// What a line says: the id, and the patterns of x and y.
+#[derive(Clone, Copy, Debug, PartialEq, Eq)]
+pub struct Pair {
+    pub id: u32,
+    pub x: u32,
+    pub y: u32,
+}
+
+// Why a line is refused: the first of these that holds.
+#[derive(Clone, Copy, Debug, PartialEq, Eq)]
+pub enum Refusal {
+    TooLong = 1,
     NoId,
     NoX,
     NoY,
+}
+
+impl Refusal {
+    // The number of the refusal.
+    pub fn number(self) -> u32
+        ensures { result ≡ number self }
+    {
+        self as u32
+    }
 }
 
 // The format read both ways: every line of it is accepted, and nothing else is. There is nothing to

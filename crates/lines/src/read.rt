@@ -1,159 +1,101 @@
-// Reading an input line.
-ghost use Rattle.std.specs.Prelude.{◌≡◌, ◌+◌, ◌≤◌, ◌<◌, eqb, length, get_or};
-ghost use Rattle.lines.specs.Fields.{number_at, d_at, id_of, h_at, hex_at};
-ghost use Rattle.lines.specs.Format.{read_line};
+// Reading an input line. Each function reads what stands at the front of a text, and answers what
+// that says and what follows it.
+ghost use Rattle.std.specs.Prelude.{◌≡◌, true, ◌+◌, leb, length, drop};
+ghost use Rattle.std.specs.List.{take_while};
+ghost use Rattle.text.specs.Bytes.{all};
+ghost use Rattle.text.specs.Digits.{is_decimal, value};
+ghost use Rattle.lines.specs.Fields.{Reads, said};
+ghost use Rattle.lines.specs.Format.{largest_id, x_key, y_key, id_digits, is_d, has_id, after_id, hex_digits, has_hex, has_x, after_x, has_y, read_line};
 
-use crate::{LARGEST_ID, LONGEST, Line};
-use text::{all_hex, hex_number};
+use crate::{LARGEST_ID, LONGEST, Pair, Refusal};
+use text::from_hex;
 
-// What reading a field finds: its value and the place after it.
-#[derive(Clone, Copy)]
-pub(crate) enum Field {
-    Read(u32, usize),
-    Missing,
-}
-
-// Whether a byte, not 0, stands at a place.
-fn stands(line: &[u8], at: usize, b: u8) -> bool
-    requires { 0 < b }
-    ensures { result ≡ eqb (get_or line.now at 0) b }
+// The decimal digits at the front, and what follows them.
+#[tactic(auto, using(std::proofs::lemmas::Grind::common_steps), unfolding(text::specs::Digits::is_decimal))]
+fn split_digits(line: &[u8]) -> (&[u8], &[u8])
+    ensures digits { result.0.now ≡ take_while is_decimal line.now }
+    ensures rest { result.1.now ≡ drop (length (take_while is_decimal line.now)) line.now }
 {
-    if at < line.len() {
-        line[at] == b
-    } else {
-        false
-    }
+    let end = line.iter().take_while(|b| b.is_ascii_digit()).count();
+    line.split_at(end)
 }
 
-// The number that the decimal digits at a place say, if it is an id. It is added up in a u64, which
+// The number that decimal digits say, if it is at most the largest id. It is added up in a u64, which
 // holds any u32 and a digit more.
-fn read_decimal(line: &[u8], from: usize) -> Field
-    requires { from ≤ length line.now }
-    ensures { result ≡ number_at from line.now }
+#[tactic(auto, using(crate::proofs::Ids::number_steps), unfolding(text::specs::Digits::value))]
+fn number(digits: &[u8]) -> Option<u32>
+    requires { all is_decimal digits.now ≡ true }
+    ensures { result ≡ said (leb (value 10 digits.now) largest_id) (value 10 digits.now) }
 {
     let mut n: u64 = 0;
-    let mut at = from;
-    while at < line.len() {
-        let b = line[at];
-        if b < b'0' {
-            return Field::Read(n as u32, at);
-        }
-        if b'9' < b {
-            return Field::Read(n as u32, at);
-        }
-        n = n * 10 + (b - b'0') as u64;
+    for digit in digits {
+        n = n * 10 + (*digit - b'0') as u64;
         if n > LARGEST_ID as u64 {
-            return Field::Missing;
-        }
-        at += 1;
-    }
-    Field::Read(n as u32, at)
-}
-
-// The D at a place.
-fn read_d(line: &[u8], from: usize) -> Field
-    requires { from ≤ length line.now }
-    ensures { result ≡ d_at from line.now }
-{
-    let Field::Read(d, end) = read_decimal(line, from) else {
-        return Field::Missing;
-    };
-    if end == from {
-        return Field::Missing;
-    }
-    if end - from > 1 {
-        if line[from] == b'0' {
-            return Field::Missing;
+            return None;
         }
     }
-    Field::Read(d, end)
+    Some(n as u32)
 }
 
-// `id=`, D, a space: D, and the place after these.
-fn read_id(line: &[u8]) -> Field
-    ensures { result ≡ id_of line.now }
+// The id that decimal digits say, if they are a D.
+#[tactic(auto, using(crate::proofs::Ids::d_steps))]
+fn read_d(digits: &[u8]) -> Option<u32>
+    requires { all is_decimal digits.now ≡ true }
+    ensures { result ≡ said (is_d digits.now) (value 10 digits.now) }
 {
-    if !stands(line, 0, b'i') {
-        return Field::Missing;
-    }
-    if !stands(line, 1, b'd') {
-        return Field::Missing;
-    }
-    if !stands(line, 2, b'=') {
-        return Field::Missing;
-    }
-    let Field::Read(d, end) = read_d(line, 3) else {
-        return Field::Missing;
-    };
-    if stands(line, end, b' ') {
-        Field::Read(d, end + 1)
-    } else {
-        Field::Missing
+    match digits {
+        [] | [b'0', _, ..] => None,
+        _ => number(digits),
     }
 }
 
-// The H at a place.
-fn read_h(line: &[u8], from: usize) -> Field
-    requires { from ≤ length line.now }
-    ensures { result ≡ h_at from line.now }
+// `id=`, D, a space: D, and what follows these.
+#[tactic(auto, using(crate::proofs::Reading::id_steps))]
+fn read_id(line: &[u8]) -> Option<(u32, &[u8])>
+    ensures { Reads (has_id line.now) (value 10 (id_digits line.now)) (after_id line.now) result }
 {
-    if line.len() - from < 8 {
-        return Field::Missing;
-    }
-    if all_hex(line, from) {
-        return Field::Read(hex_number(line, from), from + 8);
-    }
-    Field::Missing
+    let (digits, end) = split_digits(line.strip_prefix(b"id=")?);
+    let rest = end.strip_prefix(b" ")?;
+    Some((read_d(digits)?, rest))
 }
 
-// A key, `=`, H: H, and the place after these.
-fn read_field(line: &[u8], at: usize, key: u8) -> Field
-    requires { 0 < key }
-    ensures { result ≡ hex_at key at line.now }
+// A key and H: H, and what follows these.
+#[tactic(auto, using(crate::proofs::Reading::hex_steps))]
+fn read_hex<'a>(line: &'a [u8], key: &[u8]) -> Option<(u32, &'a [u8])>
+    ensures { Reads (has_hex key.now line.now) (value 16 (hex_digits key.now line.now)) (drop (length key.now + 8) line.now) result }
 {
-    if !stands(line, at, key) {
-        return Field::Missing;
-    }
-    if !stands(line, at + 1, b'=') {
-        return Field::Missing;
-    }
-    read_h(line, at + 2)
+    let (digits, rest) = line.strip_prefix(key)?.split_first_chunk::<8>()?;
+    Some((from_hex(digits)?, rest))
 }
 
-// The same, through the part of the line from there on: its pointer and length then pass in
-// registers. Those of a line that is passed on whole go through memory, which costs time.
-fn read_hex(line: &[u8], at: usize, key: u8) -> Field
-    requires key_nonzero { 0 < key }
-    requires at_in_bounds { at ≤ length line.now }
-    ensures { result ≡ hex_at key at line.now }
+// `x=`, H, a space: H, and what follows these.
+#[tactic(auto, using(crate::proofs::Reading::x_steps))]
+fn read_x(line: &[u8]) -> Option<(u32, &[u8])>
+    ensures { Reads (has_x line.now) (value 16 (hex_digits x_key line.now)) (after_x line.now) result }
 {
-    let Field::Read(n, end) = read_field(&line[at..], 0, key) else {
-        return Field::Missing;
-    };
-    Field::Read(n, at + end)
+    let (x, end) = read_hex(line, b"x=")?;
+    Some((x, end.strip_prefix(b" ")?))
+}
+
+// Just `y=`, H: H.
+#[tactic(auto, using(crate::proofs::Reading::y_steps))]
+fn read_y(line: &[u8]) -> Option<u32>
+    ensures { result ≡ said (has_y line.now) (value 16 (hex_digits y_key line.now)) }
+{
+    let (y, rest) = read_hex(line, b"y=")?;
+    if rest.is_empty() { Some(y) } else { None }
 }
 
 // What a line says, or why it is refused.
-pub fn read_line(line: &[u8]) -> Line
+#[tactic(auto, using(crate::proofs::Reading::line_steps))]
+pub fn read_line(line: &[u8]) -> Result<Pair, Refusal>
     ensures { result ≡ read_line line.now }
 {
     if line.len() > LONGEST {
-        return Line::TooLong;
+        return Err(Refusal::TooLong);
     }
-    let Field::Read(id, from_x) = read_id(line) else {
-        return Line::NoId;
-    };
-    let Field::Read(x, after_x) = read_hex(line, from_x, b'x') else {
-        return Line::NoX;
-    };
-    if !stands(line, after_x, b' ') {
-        return Line::NoX;
-    }
-    let Field::Read(y, end) = read_hex(line, after_x + 1, b'y') else {
-        return Line::NoY;
-    };
-    if end != line.len() {
-        return Line::NoY;
-    }
-    Line::Pair(id, x, y)
+    let (id, from_x) = read_id(line).ok_or(Refusal::NoId)?;
+    let (x, from_y) = read_x(from_x).ok_or(Refusal::NoX)?;
+    let y = read_y(from_y).ok_or(Refusal::NoY)?;
+    Ok(Pair { id, x, y })
 }

@@ -1,6 +1,7 @@
 // The functions on numbers that Rust and C can call, under the C calling convention: numbers pass as
-// themselves, and a double-double as a C struct of two doubles, lo and hi. Each is one call of the
-// function of the same name below, and says the same of its result. None has a `requires`.
+// themselves, and a double-double as a C struct of two doubles, lo and hi. Each is one call of a
+// function of this repository or of the library, and says the same of its result. None has a
+// `requires`.
 // `fade_compoundf` is exported by `exports`.
 #![tactic(auto)]
 
@@ -18,7 +19,7 @@ use double_double::DoubleDouble;
 pub extern "C" fn fade_to_bits_f32(x: f32) -> u32
     ensures { result ≡ to_bits binary32 x }
 {
-    floats::patterns::to_bits_f32(x)
+    std::num::f32_to_bits_with_nan(x)
 }
 
 // The f32 of a pattern.
@@ -26,7 +27,7 @@ pub extern "C" fn fade_to_bits_f32(x: f32) -> u32
 pub extern "C" fn fade_from_bits_f32(n: u32) -> f32
     ensures { result ≡ of_bits binary32 n }
 {
-    floats::patterns::from_bits_f32(n)
+    std::num::f32_from_bits_with_nan(n)
 }
 
 // The pattern of an f64; 7ff8000000000000 for a NaN.
@@ -34,7 +35,7 @@ pub extern "C" fn fade_from_bits_f32(n: u32) -> f32
 pub extern "C" fn fade_to_bits_f64(x: f64) -> u64
     ensures { result ≡ to_bits binary64 x }
 {
-    floats::patterns::to_bits_f64(x)
+    std::num::f64_to_bits_with_nan(x)
 }
 
 // The f64 of a pattern.
@@ -42,7 +43,7 @@ pub extern "C" fn fade_to_bits_f64(x: f64) -> u64
 pub extern "C" fn fade_from_bits_f64(n: u64) -> f64
     ensures { result ≡ of_bits binary64 n }
 {
-    floats::patterns::from_bits_f64(n)
+    std::num::f64_from_bits_with_nan(n)
 }
 
 // The f64 of the same value.
@@ -50,7 +51,7 @@ pub extern "C" fn fade_from_bits_f64(n: u64) -> f64
 pub extern "C" fn fade_widen(x: f32) -> f64
     ensures { result ≡ x }
 {
-    floats::narrowing::widen(x)
+    std::num::f32_to_f64_with_nan(x)
 }
 
 // The nearest f32, ties to even.
@@ -79,18 +80,20 @@ pub extern "C" fn fade_is_integerf(n: u32) -> bool
 
 // |x| of an f32.
 #[unsafe(no_mangle)]
+#[tactic(auto, using(floats::proofs::Laws::Magnitude::sign_off))]
 pub extern "C" fn fade_absf(x: f32) -> f32
     ensures { result ≡ absolute x }
 {
-    floats::common::absf(x)
+    f32::abs(x)
 }
 
 // |x| of an f64.
 #[unsafe(no_mangle)]
+#[tactic(auto, using(floats::proofs::Laws::Magnitude::sign_off))]
 pub extern "C" fn fade_abs(x: f64) -> f64
     ensures { result ≡ absolute x }
 {
-    floats::common::abs(x)
+    f64::abs(x)
 }
 
 // a in two parts.

@@ -3,54 +3,40 @@
 // and what must be written are made from the Rust (oracle/README.md).
 #![tactic(auto)]
 
-ghost use Rattle.std.specs.Prelude.{◌<◌, ◌≤◌};
+ghost use Rattle.std.specs.Prelude.{◌<◌};
 
-use compound::Answer;
 use std::io;
 use std::io::{ErrorKind, Read};
+use std::num::f32_to_bits_with_nan;
 
 // How many lines are read at most.
 const LINES: u32 = 100_000;
 
-// The value of a hexadecimal digit; another byte counts as 0.
+// The value of a hexadecimal digit; another byte counts as 0. By hand, since the library's `to_digit`
+// takes capital letters too.
 fn digit(b: u8) -> u32
     ensures { result < 16 }
 {
     match b {
-        48..=57 => (b - 48) as u32,
-        97..=102 => (b - 87) as u32,
+        b'0'..=b'9' => u32::from(b - b'0'),
+        b'a'..=b'f' => u32::from(b - b'a' + 10),
         _ => 0,
     }
 }
 
-// The pattern in the eight digits from place `at` on.
-fn pattern(line: &[u8; 18], at: usize) -> u32
-    requires { at ≤ 9 }
-{
-    let mut n = 0;
-    for i in 0..8usize {
-        n = n % 0x1000_0000 * 16 + digit(line[at + i]);
-    }
-    n
-}
-
-// Writes the pattern of r, and the route.
-fn print_answer(rt: &impl Print, r: f32, via: &str) -> io::Result<()> {
-    let bits = floats::patterns::to_bits_f32(r);
-    println!(rt; "{bits:08x} {via}")
+// The pattern of eight hexadecimal digits.
+fn pattern(digits: &[u8]) -> u32 {
+    digits
+        .iter()
+        .fold(0, |n, b| n % 0x1000_0000 * 16 + digit(*b))
 }
 
 // Writes the line again, with its answer.
 fn replay(rt: &impl Print, nx: u32, ny: u32) -> io::Result<()> {
-    print!(rt; "{nx:08x} {ny:08x} ")?;
     let answer = compound::f_compoundf(nx, ny);
-    match answer {
-        Answer::Rule(r) => print_answer(rt, r, "rule"),
-        Answer::Whole(r) => print_answer(rt, r, "whole"),
-        Answer::Edge(r) => print_answer(rt, r, "edge"),
-        Answer::Fast(r) => print_answer(rt, r, "fast"),
-        Answer::Slow(r) => print_answer(rt, r, "slow"),
-    }
+    let bits = f32_to_bits_with_nan(answer.value());
+    let via = answer.route().word();
+    println!(rt; "{nx:08x} {ny:08x} {bits:08x} {via}")
 }
 
 // Reads up to the end; a last line that is cut off is left out.
@@ -58,13 +44,11 @@ fn main(rt: HostRuntime) -> io::Result<()> {
     let mut input = rt.stdin();
     for _ in 0..LINES {
         let mut line = [0u8; 18];
-        if let Err(e) = input.read_exact(&mut line) {
-            if e.kind() == ErrorKind::UnexpectedEof {
-                return Ok(());
-            }
-            return Err(e);
+        match input.read_exact(&mut line) {
+            Ok(()) => replay(&rt, pattern(&line[..8]), pattern(&line[9..17]))?,
+            Err(e) if e.kind() == ErrorKind::UnexpectedEof => return Ok(()),
+            Err(e) => return Err(e),
         }
-        replay(&rt, pattern(&line, 0), pattern(&line, 9))?;
     }
     Ok(())
 }

@@ -6,17 +6,21 @@ use native.Mathlib.Nat.{le_trans}
 use native.Mathlib.Omega.{arith}
 use borrow.Author.Tests.{lt-ltb}
 use lib.ListN.{length, length-append}
-use Rattle.compound.specs.Answer.{Via, rule, whole, edge, fast, slow, Outcome, word}
+use Rattle.std.specs.Prelude.{Result, Ok, Err}
+use Rattle.compound.specs.declared.Route.{Route}
+use Rattle.compound.specs.declared.Route.TheVariants.{Rule as rule, Whole as whole, Edge as edge, Fast as fast, Slow as slow}
+use Rattle.compound.specs.Answer.{Outcome, word}
 use Rattle.text.specs.Digits.{places}
 use Rattle.lines.specs.Format.{line_of, longest, read_line, number}
-use Rattle.text.proofs.Numerals.{length_decimal, length_hex}
+use Rattle.text.proofs.Numerals.{length_decimal, length_hex, places_most}
 use Rattle.lines.proofs.BothWays.{both_ways}
 use Rattle.replies.specs.Reply.{answered, bad, ending, answer_to, answer_pattern, reply_to, written}
-use Rattle.lines.specs.declared.Line.{Line}
-use Rattle.lines.specs.declared.Line.TheVariants.{Pair, TooLong, NoId, NoX, NoY}
+use Rattle.lines.specs.declared.Pair.{Pair}
+use Rattle.lines.specs.declared.Refusal.{Refusal}
+use Rattle.lines.specs.declared.Refusal.TheVariants.{TooLong, NoId, NoX, NoY}
 
 -- a route's name has five bytes at most
-pub word_most : (v : Via) → length (word v) ≤ 5
+pub word_most : (v : Route) → length (word v) ≤ 5
 unfolding word
 word_most rule = omega arith
 word_most whole = omega arith
@@ -34,6 +38,9 @@ pub length_bad : (n : ℕ) → length (written (bad n)) ≡ 5 + places 9 n
 unfolding written
 length_bad n = simp length-append (omega (arith, length_decimal n))
 
+-- the length of an answer line, and that it is small
+pub ruleset length_steps = (length_answered, length_bad, word_most, places_most)
+
 -- an accepted line: what it says beside its id takes twenty-five bytes
 length_line : (d x y : ℕ) → length (line_of d x y) ≡ 25 + places 9 d
 unfolding line_of
@@ -44,13 +51,13 @@ answered_most : (l : List ℕ) (d x y : ℕ) (o : Outcome) → l ≡ line_of d x
 answered_most l d x y o e = omega (arith, length_answered d o, length_line d x y, ap length e, word_most o.via)
 
 -- what a line is answered with, by the case of what it says
-told_most : (l : List ℕ) (r : Line) → read_line l ≡ r → length (written (answer_to r)) ≤ length l + 6
+told_most : (l : List ℕ) (r : Result Pair Refusal) → read_line l ≡ r → length (written (answer_to r)) ≤ length l + 6
 unfolding answer_to number places
-told_most l (Pair d x y) e = le_trans (answered_most l d x y _ (both_ways.nothing_else l d x y e).0) (omega arith)
-told_most l TooLong e = omega (arith, length_bad 1)
-told_most l NoId e = omega (arith, length_bad 2)
-told_most l NoX e = omega (arith, length_bad 3)
-told_most l NoY e = omega (arith, length_bad 4)
+told_most l (Ok p) e = le_trans (answered_most l p.id p.x p.y _ (both_ways.nothing_else l p.id p.x p.y e).0) (omega arith)
+told_most l (Err TooLong) e = omega (arith, length_bad 1)
+told_most l (Err NoId) e = omega (arith, length_bad 2)
+told_most l (Err NoX) e = omega (arith, length_bad 3)
+told_most l (Err NoY) e = omega (arith, length_bad 4)
 
 -- an answer line, with its feed, is longer than its line by six bytes at most
 pub answer_length : (l : List ℕ) → length (written (reply_to l)) ≤ length l + 6

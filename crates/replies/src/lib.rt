@@ -7,27 +7,26 @@ mod write;
 ghost use Rattle.std.specs.Prelude.{◌≡◌};
 ghost use Rattle.replies.specs.Reply.{reply_to, told};
 
-use compound::Answer;
-use lines::{Line, read_line};
+use compound::{Answer, f_compoundf};
+use lines::{Pair, Refusal, read_line};
 pub use write::{reply_length, write_reply};
 
-// What a line is answered with: its id and the answer, or the number of its refusal.
+// An id, and the answer for its x and y.
 #[derive(Clone, Copy)]
-pub enum Reply {
-    Answered(u32, Answer),
-    Bad(u32),
+pub struct Answered {
+    pub id: u32,
+    pub answer: Answer,
 }
 
+// What a line is answered with, or why it is refused.
+pub type Reply = Result<Answered, Refusal>;
+
 // What the line is answered with.
+#[tactic(auto, unfolding(crate::specs::Reply::reply_to, crate::specs::Reply::told, crate::specs::Reply::answer_to))]
 pub fn reply_to(line: &[u8]) -> Reply
     ensures { told result ≡ reply_to line.now }
 {
-    let read = read_line(line);
-    match read {
-        Line::Pair(id, x, y) => Reply::Answered(id, compound::f_compoundf(x, y)),
-        Line::TooLong => Reply::Bad(1),
-        Line::NoId => Reply::Bad(2),
-        Line::NoX => Reply::Bad(3),
-        Line::NoY => Reply::Bad(4),
-    }
+    let Pair { id, x, y } = read_line(line)?;
+    let answer = f_compoundf(x, y);
+    Ok(Answered { id, answer })
 }

@@ -16,7 +16,7 @@ use Rattle.double_double.specs.declared.DoubleDouble.{DoubleDouble}
 use Rattle.double_double.specs.DoubleDouble.{from_exact_add}
 use Rattle.special.specs.Special.{one, minus_one}
 use Rattle.fast_path.specs.Fast.{compoundf_log2p1_fast}
-use Rattle.fast_path.proofs.LogSize.{factor, fast_is, fast_factor, product_size, part_size, part_large, power_size, whole_large, nil_sums, own_product, near_least}
+use Rattle.fast_path.proofs.LogSize.{factor, fast_factor, product_size, part_size, part_large, power_size, whole_large, nil_sums, own_product, near_least}
 use Rattle.fast_path.proofs.OnePlus.{InScale, sum_bits}
 use Rattle.fast_path.proofs.Reduced.{Power, Alone, exponent_cases, One, inverse_cases}
 use Rattle.slow_path.specs.Slow.{one_plus, log2_poly2, sum_of_logs, compoundf_log2p1_accurate}
@@ -262,7 +262,7 @@ module _ (x : Float) (f : T (fits binary32 x)) (p : T (finite x)) (h : T (lt min
 
   pub logarithms : Beside (compoundf_log2p1_accurate x).hi (compoundf_log2p1_fast x)
   logarithms =
-      subst (Beside (compoundf_log2p1_accurate x).hi) (sym (Cases.fast_logs x v refl bits.0 bits.1 on_scale parts ∙ ap (λ (k : Float). e ⊕ (a.hi ⊕ k)) (fast_is z)))
+      subst (Beside (compoundf_log2p1_accurate x).hi) (sym (Cases.fast_logs x v refl bits.0 bits.1 on_scale parts))
       (subst (λ (k : Float). Beside k low) (sym (ap (λ (k : DoubleDouble). k.hi) (Cases.accurate_logs x v refl bits.0 bits.1 on_scale parts) ∙ high_is)) all)
 
   -- the two logarithms on one scale

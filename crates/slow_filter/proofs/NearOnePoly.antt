@@ -1,20 +1,19 @@
 -- The polynomials of the power next to 1: for a z' of at most 2^-16 in size and a z that is 3 × 2^-53 from it, and a little, both are 1 and a term, w and w', and these are less than 2.09 × 2^-53
 -- from each other; and hi and lo of the slow path's are together 1 + w but for a little (`poly_near`). Terms of degree 4 and above count for less than 2^-64. Assumes nothing.
 use mathlib.Core.Path.{◌≡◌, refl, subst}
-use Prim.Native.Nat.{ℕ, ◌+◌, ◌-◌, ◌*◌, ◌^◌, ◌<◌}
+use Prim.Native.Nat.{ℕ, ◌+◌, ◌*◌, ◌^◌, ◌<◌}
 use lib.Dec.{lit<}
-use lib.Ieee.{Float, binary64, fits, to_bits, of_bits}
+use lib.Ieee.{Float, fits, of_bits}
 use Rattle.floats.specs.Operations.{◌⊕◌, ◌⊗◌}
 use Rattle.double_double.specs.declared.DoubleDouble.{DoubleDouble}
 use Rattle.double_double.specs.DoubleDouble.{from_exact_add, from_exact_mult, quick_mult, dd_fmla}
 use Rattle.tables.specs.Tables.{entry, exp2_poly_q2}
-use Rattle.slow_path.specs.Slow.{q2, next_exp2, highest_exp2, compoundf_exp2_poly2}
+use Rattle.slow_path.specs.Slow.{q2, with_term, next_exp2, highest_exp2, compoundf_exp2_poly2}
 use Rattle.slow_path.proofs.Coefficients.{q2_size, q2_second, q2_first}
 use Rattle.bounds.proofs.Scales.{S, unit, unit_left, Bound, Bounds, at, add_bound, mul_bound, fmla_bound, fast_bounds, quick_bounds, tested}
 use Rattle.bounds.proofs.Distances.{Apart, apart_at, add_apart}
 use Rattle.bounds.proofs.Apart.{apart_same, sum_apart, product_apart}
-use Rattle.bounds.proofs.Compared.{positive_at, positive_bound, positive_add}
-use Rattle.filter.proofs.Power.{Unscaled, unscaled}
+use Rattle.bounds.proofs.Compared.{positive_bound}
 use Rattle.slow_filter.specs.NearOne.{near_one_power}
 use Rattle.slow_filter.proofs.Fine.{fine, times_fine, bound_fine, bound_one, apart_one}
 use Rattle.slow_filter.proofs.SmallTerm.{Parts, parts_at, small_term, more_low}
@@ -40,7 +39,7 @@ highest_low {z} b =
 
 -- one step
 next_low : {q z : DoubleDouble} (i : ℕ) → i < 12 → Bound S 1 (q2 (i + 1)) → Bounds S (2 ^ 54) (2 ^ 5) q → Bounds S (2 ^ 38) 1 z → Bounds S (2 ^ 54) (2 ^ 5) (next_exp2 q z i)
-unfolding next_exp2
+unfolding with_term next_exp2
 next_low {q} {z} i h second b c =
     let q' = quick_bounds (unit_left unit) b c tt in
     let t = fast_bounds (q2_size i h) (at (2 ^ 40) q'.hi tt) tt in
@@ -115,10 +114,6 @@ module _ (z : DoubleDouble) (z' : Float) (hi : Bound fine (2 ^ 53 + 2 ^ 18) z.hi
   q1 : DoubleDouble
   q1 = next_exp2 (next_exp2 (next_exp2 (highest_exp2 z.hi) z 5) z 3) z 1
 
-  q1_hi : slow_1 ≡ q1.hi
-  unfolding slow_1 above q1 next_exp2 highest_exp2 quick_mult from_exact_mult from_exact_add
-  q1_hi = refl
-
   q1_lo : Bound S (2 ^ 5) q1.lo
   unfolding q1
   q1_lo =
@@ -151,7 +146,7 @@ module _ (z : DoubleDouble) (z' : Float) (hi : Bound fine (2 ^ 53 + 2 ^ 18) z.hi
   t_parts = parts_at 65541 3 (small_term (bound_fine (positive_bound q2_first)) w_bound tt tt tt) tt tt
 
   poly_is : record { lo = q.lo ⊕ t.lo; hi = t.hi } ≡ compoundf_exp2_poly2 z
-  unfolding q t w slow_1 above q1 compoundf_exp2_poly2 next_exp2 highest_exp2 quick_mult from_exact_mult from_exact_add
+  unfolding q t w slow_1 above q1 compoundf_exp2_poly2 with_term next_exp2 highest_exp2 quick_mult from_exact_mult from_exact_add
   poly_is = refl
 
   pub poly_near : PolyNear z z'
@@ -159,18 +154,9 @@ module _ (z : DoubleDouble) (z' : Float) (hi : Bound fine (2 ^ 53 + 2 ^ 18) z.hi
     w = w;
     w' = w';
     plain_is = unfold w' plain_1 near_one_power in refl;
-    high_is = unfold w slow_1 above compoundf_exp2_poly2 next_exp2 highest_exp2 quick_mult from_exact_mult from_exact_add in refl;
+    high_is = unfold w slow_1 above compoundf_exp2_poly2 with_term next_exp2 highest_exp2 quick_mult from_exact_mult from_exact_add in refl;
     slow = w_bound;
     plain = unfold w' in at (2 ^ 53) (mul_bound times_fine degree_1.plain b tt tt) tt;
     near = unfold w w' in apart_at 136400 (product_apart times_fine degree_1.near a degree_1.slow hi degree_1.plain b tt) tt;
     parts = subst (Parts fine 65620 80 (q2 0) w) poly_is (parts_at 65620 80 (more_low q_lo t_parts tt) tt tt);
   }
-
--- ---- the short polynomial by itself is from 1/2 to 2
-pub near_one_unscaled : (z' : Float) → Bound S (2 ^ 37) z' → Unscaled (to_bits binary64 (near_one_power z'))
-unfolding near_one_power
-near_one_unscaled z' b =
-    let one = unit_left unit in
-    let c3 = add_bound sizes.1 (mul_bound one sizes.2 b tt tt) tt in
-    let c1 = add_bound sizes.0 (mul_bound one c3 b tt tt) tt in
-    unscaled (positive_at (2 ^ 52) (2 ^ 54 - 1) (positive_add q2_first (mul_bound one c1 b tt tt) tt tt) tt tt)

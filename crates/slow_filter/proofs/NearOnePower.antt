@@ -20,7 +20,7 @@ use Rattle.special.specs.Special.{zero, one}
 use Rattle.fast_path.specs.Scaling.{scaled}
 use Rattle.fast_path.specs.Fast.{power_index}
 use Rattle.fast_path.proofs.PowerSlot.{power_nearest}
-use Rattle.slow_path.specs.Slow.{q2, compoundf_exp2_poly2, clamped_k, test_pattern, rounded_to_odd, scaled_to_f32, exp2_product, is_small, exp2_away, is_near_one, exp2_accurate}
+use Rattle.slow_path.specs.Slow.{q2, compoundf_exp2_poly2, clamped_k, test_pattern, rounded_to_odd, scaled_to_f32, exp2_product, err_of, is_small, exp2_away, is_near_one, exp2_accurate}
 use Rattle.slow_path.proofs.Clamped.{index_unclamped}
 use Rattle.slow_path.proofs.Coefficients.{q2_first}
 use Rattle.bounds.proofs.Values.{plus, less, mag, Number}
@@ -35,6 +35,7 @@ use Rattle.bounds.proofs.Nearest.{whole_shared}
 use Rattle.filter.proofs.Power.{Unscaled}
 use Rattle.slow_filter.specs.NearOne.{near_one_power}
 use Rattle.slow_filter.proofs.Odd.{Odd, odd_of}
+use Rattle.slow_filter.proofs.LowPart.{nil_of}
 use Rattle.slow_filter.proofs.Fine.{fine, fine_scale, bound_fine, bound_one, apart_fine, apart_one}
 use Rattle.slow_filter.proofs.SmallTerm.{Parts, parts_at, small_term, near_parts, parts_through, sums_near}
 use Rattle.slow_filter.proofs.NearOnePoly.{PolyNear, poly_near}
@@ -92,9 +93,6 @@ same_apart {μ} {x} {y} s = record { over = go (plus x) (less x) (plus y) (less 
 same_bound : {μ K : ℕ} {x y : Float} → Same x y → Bound μ K y → Bound μ K x
 same_bound {μ} {K} s b = record { scale = b.scale; number = s.number; size = le_trans (le_of_eq (ap₂ ◌+◌ s.plus_same s.less_same)) b.size }
 
-same_nil : {x : Float} → Same x zero → Nil x
-same_nil s = record { number = s.number; is = ap₂ ◌+◌ s.plus_same s.less_same }
-
 in_limit : {μ K : ℕ} {x : Float} → Bound μ K x → T (ok K) → (mag x + 1) * 2 ^ 28 ≤ limit
 in_limit {μ} {K} {x} b t = go (mag x) (K * μ) limit b.size (small_limit K μ t b.scale.bounded) large
   where
@@ -119,7 +117,7 @@ times_unity {a} {b} {r} p h =
     let x1 = same_bound same p.low in
     let x2 = nil_bound fine fine_scale (nil_product (nil false) h.number) in
     let x3 = add_bound x1 x2 tt in
-    let x4 = nil_bound fine fine_scale (same_nil c.lo) in
+    let x4 = nil_bound fine fine_scale (nil_of c.lo) in
     near_parts p (same_apart c.hi) (apart_through (add_apart_right x4 x3 tt) (apart_through (add_apart x1 x2 tt) (same_apart same))) (add_bound x4 x3 tt)
 
 -- ---- the two side by side
@@ -255,15 +253,15 @@ module _ (s : Bool) (t : DoubleDouble) (t' : Float) (sign : HasSign s t.hi) (n :
   unfolding plain_power
   plain_pattern_lem = ap (to_bits binary64) polynomials.plain_is
 
-  small : Bool
-  small = is_small k 16 t.hi
+  err : Float
+  err = err_of (is_small k 16 t.hi)
 
   pattern : ℕ
-  pattern = rounded_to_odd q (test_pattern q small (pos 0))
+  pattern = rounded_to_odd q (test_pattern q err (pos 0))
 
   pattern_is : Odd (to_bits binary64 slow_power) pattern
   unfolding slow_power pattern
-  pattern_is = odd_of q (test_pattern q small (pos 0)) slow_is
+  pattern_is = odd_of q (test_pattern q err (pos 0)) slow_is
 
   same_product : exp2_product v 16 ≡ q
   unfolding exp2_product q product poly rest e
@@ -285,11 +283,11 @@ module _ (s : Bool) (t : DoubleDouble) (t' : Float) (sign : HasSign s t.hi) (n :
       ∙ ap (λ (y : Bool). cond (y && x) (narrowed (one ⊕ t.hi ⊗ f64 0x3fe0000000000000)) (exp2_away t (fin s 0 (pos 0)))) (nil_is_zero s)
 
   answer : exp2_away t k ≡ narrowed (f64 pattern)
-  unfolding exp2_away scaled_to_f32 pattern small v k
+  unfolding exp2_away scaled_to_f32 pattern err v k
   answer =
-      ap (λ (j : ℕ). scaled_to_f32 (exp2_product v j) (is_small k j t.hi) (clamped_k k)) (sym (index_unclamped v.hi (subst (λ (j : ℕ). j < 33) (sym index_is) (lit< tt))) ∙ index_is)
-      ∙ ap (λ (z : ℤ). scaled_to_f32 (exp2_product v 16) (is_small k 16 t.hi) z) (clamped_nil s)
-      ∙ ap (λ (w : DoubleDouble). scaled_to_f32 w (is_small k 16 t.hi) (pos 0)) same_product
+      ap (λ (j : ℕ). scaled_to_f32 (exp2_product v j) (err_of (is_small k j t.hi)) (clamped_k k)) (sym (index_unclamped v.hi (subst (λ (j : ℕ). j < 33) (sym index_is) (lit< tt))) ∙ index_is)
+      ∙ ap (λ (z : ℤ). scaled_to_f32 (exp2_product v 16) (err_of (is_small k 16 t.hi)) z) (clamped_nil s)
+      ∙ ap (λ (w : DoubleDouble). scaled_to_f32 w (err_of (is_small k 16 t.hi)) (pos 0)) same_product
       ∙ ap (λ (m : ℕ). narrowed (f64 m)) not_scaled
 
   near_one_signed : le (absolute t.hi) (f64 0x3e6715476af0d4c8) ≡ false → NearOnePower t t'

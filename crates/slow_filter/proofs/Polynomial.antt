@@ -1,8 +1,9 @@
 -- The polynomials of the power, side by side: where z and z' are 3/2 × 2^-29 from each other, and a little, and at most 1/64 in size, hi of the slow path's is less than 1.053 × 2^-29 from the
 -- plain one (`poly_beside`). Both are brought to Horner's form, in which the coefficients are compared one by one. Numbers are on the scale of 1, where 2^53 is 1. Assumes nothing.
 use mathlib.Core.Path.{◌≡◌, refl, subst}
-use mathlib.Core.Bool.{Bool, true, ◌&&◌, false}
+use mathlib.Core.Bool.{Bool, ◌&&◌}
 use Prim.Native.Nat.{ℕ, ◌+◌, ◌*◌, ◌^◌}
+use native.Mathlib.Omega.{arith}
 use lib.Dec.{T, leb, leb→le}
 use lib.Ieee.{Float, binary64, fits, of_bits}
 use Rattle.floats.specs.Operations.{◌⊕◌, ◌⊗◌}
@@ -10,7 +11,8 @@ use Rattle.floats.proofs.Laws.Sums.{add_turned}
 use Rattle.double_double.specs.declared.DoubleDouble.{DoubleDouble}
 use Rattle.double_double.specs.DoubleDouble.{from_exact_add, from_exact_mult, quick_mult, dd_fmla}
 use Rattle.tables.specs.Tables.{entry, expf_poly_q, exp2_poly_q2}
-use Rattle.slow_path.specs.Slow.{q2, next_exp2, highest_exp2, compoundf_exp2_poly2}
+use Rattle.fast_path.specs.Fast.{expf_poly}
+use Rattle.slow_path.specs.Slow.{q2, with_term, next_exp2, highest_exp2, compoundf_exp2_poly2}
 use Rattle.bounds.proofs.Values.{plus, less}
 use Rattle.bounds.proofs.Scales.{S, unit, unit_left, Bound, at, ok, sum_k, product_k, add_bound, mul_bound, fmla_bound, within, tested}
 use Rattle.bounds.proofs.Distances.{Apart, apart_at, apart_through, add_apart}
@@ -69,7 +71,7 @@ record PlainHorner (z : Float) : Type 0 where
   near : Apart S 32 ((plain_upper z ⊗ z ⊕ q 1) ⊗ z ⊕ q 0) (plain_expf_poly z)
 
 plain_horner : {z : Float} → Bound S (2 ^ 47) z → Bound S (2 ^ 51) (plain_upper z) → PlainHorner z
-unfolding plain_upper plain_expf_poly
+unfolding plain_upper expf_poly
 plain_horner {z} b c =
     let one = unit_left unit in
     let c1 = coefficients.1.plain in
@@ -104,11 +106,7 @@ step {K = K} {x = x} {x' = x'} {c = c} {c' = c'} {z = z} {z' = z'} E M p r b f g
     })
   where
     first : (a b c d : Bool) → T (a && b && c && d) → T a
-    first true true true true h = tt
-    first false _ _ d h = elim h [ ]
-    first true false _ d h = elim h [ ]
-    first true true false d h = elim h [ ]
-    first true true true false h = elim h [ ]
+    first a b c d h = grind arith
 
 -- ---- all of it
 pub record PolyBeside (p p' : Float) : Type 0 where
@@ -131,7 +129,7 @@ module _ (z : DoubleDouble) (z' : Float) (b : Beside apart_z (2 ^ 47) z.hi z') w
       at (91 * 2 ^ 31) (mul_bound one (at (90 * 2 ^ 37) (fmla_bound one c7 h2 c5 tt) tt) b.slow tt tt) tt
 
   hi_is : q2 0 ⊕ (q2 1 ⊕ (q2 3 ⊕ (q2 5 ⊕ (q2 7 ⊕ above) ⊗ z.hi) ⊗ z.hi) ⊗ z.hi) ⊗ z.hi ≡ (compoundf_exp2_poly2 z).hi
-  unfolding above compoundf_exp2_poly2 next_exp2 highest_exp2 quick_mult from_exact_mult from_exact_add
+  unfolding above compoundf_exp2_poly2 with_term next_exp2 highest_exp2 quick_mult from_exact_mult from_exact_add
   hi_is = refl
 
   degree_4 : Beside 195946040035 (634 * 2 ^ 37) (q2 7 ⊕ above) (q 4)

@@ -19,7 +19,7 @@ use Rattle.special.specs.Special.{zero, one}
 use Rattle.special.proofs.Rule.{finite_number}
 use Rattle.fast_path.specs.Scaling.{scaled}
 use Rattle.fast_path.specs.Fast.{power_index}
-use Rattle.slow_path.specs.Slow.{compoundf_exp2_poly2, clamped_k, test_pattern, rounded_to_odd, scaled_to_f32, exp2_product, is_small, exp2_away, is_near_one, exp2_accurate}
+use Rattle.slow_path.specs.Slow.{compoundf_exp2_poly2, clamped_k, test_pattern, rounded_to_odd, scaled_to_f32, exp2_product, err_of, is_small, exp2_away, is_near_one, exp2_accurate}
 use Rattle.bounds.proofs.Values.{per_one, per_one_pos, plus, less, mag, one_side, Number}
 use Rattle.bounds.proofs.Scales.{S, unit, unit_left, Bound, Bounds, at, add_bound, sub_bound, mul_bound, fast_bounds, quick_bounds}
 use Rattle.bounds.proofs.Distances.{Apart, apart_at, apart_through, add_apart, bound_near}
@@ -212,15 +212,15 @@ module _ (s : Bool) (t : DoubleDouble) (t' : Float) (sign : HasSign s t.hi) (sig
   unfolding plain_power u i plain_pattern
   plain_pattern_lem = refl
 
-  small : Bool
-  small = is_small k i t.hi
+  err : Float
+  err = err_of (is_small k i t.hi)
 
   pattern : ℕ
-  pattern = rounded_to_odd q (test_pattern q small (to_signed 63 k))
+  pattern = rounded_to_odd q (test_pattern q err (to_signed 63 k))
 
   pattern_is : Odd (to_bits binary64 slow_power) pattern
   unfolding slow_power pattern
-  pattern_is = odd_of q (test_pattern q small (to_signed 63 k)) slow_is
+  pattern_is = odd_of q (test_pattern q err (to_signed 63 k)) slow_is
 
   same_product : exp2_product v i ≡ q
   unfolding exp2_product q product poly rest u e
@@ -236,10 +236,10 @@ module _ (s : Bool) (t : DoubleDouble) (t' : Float) (sign : HasSign s t.hi) (sig
       not_0 = unfold k in not_zero k k_bound.number away
 
   answer : exp2_away t k ≡ narrowed (f64 (scaled pattern (to_signed 63 k)))
-  unfolding exp2_away scaled_to_f32 pattern small v
+  unfolding exp2_away scaled_to_f32 pattern err v
   answer =
-      ap (λ (j : ℕ). scaled_to_f32 (exp2_product v j) (is_small k j t.hi) (clamped_k k)) (sym (index_unclamped v.hi (subst (λ (j : ℕ). j < 33) (sym index_shared) inside)) ∙ index_shared)
-      ∙ ap (λ (z : ℤ). scaled_to_f32 (exp2_product v i) (is_small k i t.hi) z) (k_unclamped (at (1000 * 2 ^ 53) k_bound tt)) ∙ ap (λ (w : DoubleDouble). scaled_to_f32 w (is_small k i t.hi) (to_signed 63 k)) same_product
+      ap (λ (j : ℕ). scaled_to_f32 (exp2_product v j) (err_of (is_small k j t.hi)) (clamped_k k)) (sym (index_unclamped v.hi (subst (λ (j : ℕ). j < 33) (sym index_shared) inside)) ∙ index_shared)
+      ∙ ap (λ (z : ℤ). scaled_to_f32 (exp2_product v i) (err_of (is_small k i t.hi)) z) (k_unclamped (at (1000 * 2 ^ 53) k_bound tt)) ∙ ap (λ (w : DoubleDouble). scaled_to_f32 w (err_of (is_small k i t.hi)) (to_signed 63 k)) same_product
 
   pub power_of : PowerOf t t'
   unfolding k

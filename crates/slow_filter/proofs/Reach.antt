@@ -4,40 +4,32 @@ use mathlib.Core.Path.{◌≡◌, refl, sym, subst}
 use mathlib.Core.Logic.{◌⊎◌, inl, inr}
 use mathlib.Core.Bool.{Bool, true, false, true≢false, ◌&&◌}
 use Prim.Native.Nat.{ℕ, ◌+◌, ◌-◌, ◌*◌, ◌^◌, ◌≤◌, ◌<◌}
-use native.Mathlib.Nat.{lt_of_lt_of_le}
+use native.Mathlib.Nat.{le_trans, lt_of_lt_of_le}
 use native.Mathlib.Omega.{arith}
 use lib.Dec.{T, lit≤, lit<}
 use lib.IntN.{pos}
-use lib.Ieee.{Float, nan, inf, fin, binary64, fits, le, ne, of_bits, to_signed}
+use lib.Ieee.{Float, nan, inf, fin, binary64, fits, sub, neg, le, ne, of_bits, to_signed}
 use lib.Ieee.Fits.{sub-fits}
-use Rattle.floats.specs.Operations.{f64}
 use Rattle.floats.specs.OnBits.{absolute}
 use Rattle.floats.specs.Narrowing.{nearest_whole}
 use Rattle.special.specs.Special.{one}
-use Rattle.slow_path.proofs.OnePlusParts.{absolute_units}
+use Rattle.slow_path.proofs.OnePlusParts.{size_least, size_most}
 use Rattle.bounds.proofs.Values.{per_one, plus, less, mag, one_side, Number}
 use Rattle.bounds.proofs.Scales.{S, S_pos, one_is, unit, Bound, tested}
 use Rattle.bounds.proofs.Distances.{Apart, sub_apart}
 use Rattle.bounds.proofs.Nearest.{whole_bound}
 use Rattle.bounds.proofs.Compared.{units_of_le, lt_true}
-use Rattle.filter.specs.Plain.{part_of, rest_of, slow_from, slow_to}
+use Rattle.filter.specs.Plain.{part_of, rest_of, part_end, rest_end, clear_of_switches, slow_from, slow_to}
 use Rattle.filter.proofs.Power.{part_half}
 use Rattle.filter.proofs.Middle.{four, of_tests}
-use Rattle.filter.proofs.Limits.{between_bound, lower_edge, upper_edge, InsideEdges}
-use Rattle.slow_filter.specs.Plain.{wide_of_switches, in_reach, next_from, next_to, next_to_one}
+use Rattle.filter.proofs.Limits.{between_bound, end_bound, lower_edge, upper_edge, InsideEdges}
+use Rattle.slow_filter.specs.Plain.{switch_gap, in_reach, next_from, next_to, next_to_one}
 use Rattle.slow_filter.specs.Subnormal.{BelowNormal}
 use Rattle.slow_filter.proofs.BelowNormal.{below_normal}
 
 -- ---- the tests, one by one
-pub true_of : (b : Bool) → T b → b ≡ true
-true_of true t = refl
-true_of false t = elim t [ ]
-
 three : (a b c : Bool) → (a && (b && c)) ≡ true → (a ≡ true) × (b ≡ true) × (c ≡ true)
-three true true true e = (e, e, e)
-three true true false e = absurd (true≢false (sym e))
-three true false c e = absurd (true≢false (sym e))
-three false b c e = absurd (true≢false (sym e))
+three a b c e = grind arith
 
 pub record Reached (y t : Float) : Type 0 where
   pub not_one : ne y one ≡ true
@@ -50,11 +42,6 @@ in_parts y t e =
     let o = three (ne y one) (le t slow_to) (le slow_from t) e in
     record { not_one = o.0; high = o.1; low = o.2 }
 
-pub reached : (y t : Float) → in_reach y t ≡ true → T (le t slow_to) × T (le slow_from t)
-reached y t e =
-    let r = in_parts y t e in
-    (subst T (sym r.high) tt, subst T (sym r.low) tt)
-
 pub record Next (y t : Float) : Type 0 where
   pub not_one : ne y one ≡ true
   pub most : le (absolute t) next_to ≡ true
@@ -65,9 +52,6 @@ unfolding next_to_one
 next_parts y t e =
     let o = three (ne y one) (le (absolute t) next_to) (le next_from (absolute t)) e in
     record { not_one = o.0; most = o.1; least = o.2 }
-
-pub next_reached : (y t : Float) → next_to_one y t ≡ true → T (le (absolute t) next_to)
-next_reached y t e = subst T (sym (next_parts y t e).most) tt
 
 -- ---- |t| at most 2^-16, and 2^-25 at least
 -- what is at most 2^-16 in size is a number
@@ -84,23 +68,10 @@ sizes = (record { held = tt; plain = tt }, lit≤ tt, refl, record { held = tt; 
 pub next_bound : (t : Float) → T (fits binary64 t) → le (absolute t) next_to ≡ true → Bound S (2 ^ 37) t
 next_bound t f e =
     let n = small_number t f e in
-    let a = absolute_units t n in
-    record {
-      scale = unit;
-      number = n;
-      size = go (plus (absolute t)) (less (absolute t)) (plus next_to) (less next_to) (mag t) (2 ^ 37 * S) a.1 a.2 sizes.1 sizes.2 (units_of_le a.0 sizes.0 e);
-    }
-  where
-    go : (p n q m t k : ℕ) → p ≡ t → n ≡ 0 → q ≤ k → m ≡ 0 → p + m ≤ q + n → t ≤ k
-    go p n q m t k e1 e2 e3 e4 h = omega arith
+    record { scale = unit; number = n; size = le_trans (size_most next_to t sizes.0 sizes.2 n e) sizes.1 }
 
 pub next_least : (t : Float) → Number t → le next_from (absolute t) ≡ true → 2 ^ 28 * S ≤ mag t
-next_least t n e =
-    let a = absolute_units t n in
-    go (plus (absolute t)) (less (absolute t)) (plus next_from) (less next_from) (mag t) (2 ^ 28 * S) a.1 a.2 sizes.4 sizes.5 (units_of_le sizes.3 a.0 e)
-  where
-    go : (p n q m t k : ℕ) → p ≡ t → n ≡ 0 → k ≤ q → m ≡ 0 → q + n ≤ p + m → k ≤ t
-    go p n q m t k e1 e2 e3 e4 h = omega arith
+next_least t n e = le_trans sizes.4 (size_least next_from t sizes.3 sizes.5 n e)
 
 -- ---- t between -149.5 and -128
 module _ (t : Float) (f : T (fits binary64 t)) (high : le t slow_to ≡ true) (low : le slow_from t ≡ true) where
@@ -183,22 +154,16 @@ module _ (t : Float) (f : T (fits binary64 t)) (high : le t slow_to ≡ true) (l
   unfolding rest_of
   rest_fits = sub-fits binary64 (part_of t) _
 
-  pub wide_bounds : wide_of_switches (part_of t) (rest_of t) ≡ true → Bound S (2 ^ 52 - 2 ^ 26) (part_of t) × Bound S (2 ^ 47 - 2 ^ 26) (rest_of t)
-  unfolding wide_of_switches of_bits
+  pub wide_bounds : clear_of_switches switch_gap (part_of t) (rest_of t) ≡ true → Bound S (2 ^ 52 - 2 ^ 26) (part_of t) × Bound S (2 ^ 47 - 2 ^ 26) (rest_of t)
+  unfolding of_bits sub neg
   wide_bounds e =
-      let o = four (le (part_of t) (f64 0x3fdffffff8000000)) (le (f64 0xbfdffffff8000000) (part_of t)) (le (rest_of t) (f64 0x3f8fffff00000000)) (le (f64 0xbf8fffff00000000) (rest_of t)) e in (
-        between_bound (2 ^ 52 - 2 ^ 26) part_low part_high (of_tests (part_of t) (f64 0xbfdffffff8000000) (f64 0x3fdffffff8000000) part_fits tt tt o.1 o.0) o.1 o.0,
-        between_bound (2 ^ 47 - 2 ^ 26) rest_low rest_high (of_tests (rest_of t) (f64 0xbf8fffff00000000) (f64 0x3f8fffff00000000) rest_fits tt tt o.3 o.2) o.3 o.2,
+      let o = four (le (part_of t) (part_end switch_gap)) (le (neg (part_end switch_gap)) (part_of t)) (le (rest_of t) (rest_end switch_gap)) (le (neg (rest_end switch_gap)) (rest_of t)) e in (
+        end_bound (2 ^ 52 - 2 ^ 26) (part_end switch_gap) most_part (of_tests (part_of t) (neg (part_end switch_gap)) (part_end switch_gap) part_fits tt tt o.1 o.0) o.0 o.1,
+        end_bound (2 ^ 47 - 2 ^ 26) (rest_end switch_gap) most_rest (of_tests (rest_of t) (neg (rest_end switch_gap)) (rest_end switch_gap) rest_fits tt tt o.3 o.2) o.2 o.3,
       )
     where
-      part_low : Bound S (2 ^ 52 - 2 ^ 26) (f64 0xbfdffffff8000000)
-      part_low = unfold of_bits fits in tested (2 ^ 52 - 2 ^ 26) (f64 0xbfdffffff8000000) tt
+      most_part : Bound S (2 ^ 52 - 2 ^ 26) (part_end switch_gap)
+      most_part = unfold of_bits fits sub in tested (2 ^ 52 - 2 ^ 26) (part_end switch_gap) tt
 
-      part_high : Bound S (2 ^ 52 - 2 ^ 26) (f64 0x3fdffffff8000000)
-      part_high = unfold of_bits fits in tested (2 ^ 52 - 2 ^ 26) (f64 0x3fdffffff8000000) tt
-
-      rest_low : Bound S (2 ^ 47 - 2 ^ 26) (f64 0xbf8fffff00000000)
-      rest_low = unfold of_bits fits in tested (2 ^ 47 - 2 ^ 26) (f64 0xbf8fffff00000000) tt
-
-      rest_high : Bound S (2 ^ 47 - 2 ^ 26) (f64 0x3f8fffff00000000)
-      rest_high = unfold of_bits fits in tested (2 ^ 47 - 2 ^ 26) (f64 0x3f8fffff00000000) tt
+      most_rest : Bound S (2 ^ 47 - 2 ^ 26) (rest_end switch_gap)
+      most_rest = unfold of_bits fits sub in tested (2 ^ 47 - 2 ^ 26) (rest_end switch_gap) tt

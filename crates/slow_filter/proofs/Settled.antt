@@ -1,5 +1,6 @@
 -- What the plain evaluation finds of x and y is the slow path's answer (`settled`): the accurate logarithm times y is near the plain t', the accurate power near the plain one, and no midpoint is between
 -- them. Assumes nothing.
+use Rattle.std.proofs.Common.{Some, None}
 use mathlib.Core.Path.{◌≡◌, refl, sym, ◌∙◌, subst}
 use mathlib.Core.Bool.{Bool, true, false, cond}
 use Prim.Native.Nat.{ℕ, zero, suc, ◌+◌, ◌*◌, ◌^◌, ◌<◌}
@@ -21,14 +22,12 @@ use Rattle.bounds.proofs.Values.{mag, Number}
 use Rattle.bounds.proofs.Scales.{S, unit, at}
 use Rattle.bounds.proofs.OwnScale.{Nil, nil_bound, nil_product}
 use Rattle.bounds.proofs.Nearest.{sign_below}
-use Rattle.filter.specs.Plain.{plain_factor, plain_log2p1, part_of, rest_of, plain_pattern}
+use Rattle.filter.specs.Plain.{plain_factor, plain_log2p1, part_of, rest_of, plain_pattern, clear_of_switches}
 use Rattle.filter.proofs.Factor.{plain_factor_lem}
 use Rattle.filter.proofs.Times.{single}
-use Rattle.slow_filter.specs.declared.SlowFound.{SlowFound}
-use Rattle.slow_filter.specs.declared.SlowFound.TheVariants.{Rounded, Unsure}
 use Rattle.slow_filter.specs.Subnormal.{subnormal_found}
 use Rattle.slow_filter.specs.NearOne.{near_one_found}
-use Rattle.slow_filter.specs.Plain.{wide_of_switches, subnormal_power, kept_from, plain_log, in_reach, next_to_one, plain_slow}
+use Rattle.slow_filter.specs.Plain.{switch_gap, subnormal_power, kept_from, plain_log, in_reach, next_to_one, plain_slow}
 use Rattle.slow_filter.proofs.LogOwn.{LogOwn}
 use Rattle.slow_filter.proofs.Accurate.{kept_own, times_beside, times_fine}
 use Rattle.slow_filter.proofs.Tiny.{tiny_own}
@@ -36,14 +35,6 @@ use Rattle.slow_filter.proofs.Power.{power_of}
 use Rattle.slow_filter.proofs.Subnormal.{subnormal}
 use Rattle.slow_filter.proofs.NearOne.{near_one}
 use Rattle.slow_filter.proofs.Reach.{Reached, in_parts, Next, next_parts, next_bound, next_least, reach_bound, reach_negative, reach_some, reach_apart, reach_whole, reach_k, wide_bounds}
-
--- Unsure is no answer
-no_answer : (v : Float) → Unsure ≡ Rounded v → ⊥
-no_answer v e = subst (λ (f : SlowFound). Told f) e tt
-  where
-    Told : SlowFound → Type 0
-    Told (Rounded v) = ⊥
-    Told Unsure = Unit {0}
 
 -- where x is 0, the plain logarithm is, and so is t'
 nil_log : (x y : Float) → Nil x → Number y → Nil (x ⊗ plain_factor x ⊗ y)
@@ -82,7 +73,7 @@ module _ (x y : Float) (fx : T (fits binary32 x)) (px : T (finite x)) (hx : T (l
 
   -- ---- below the normal f32s
   module _ (r : Reached y t') where
-    by_power : (v : Float) → wide_of_switches (part_of t') (rest_of t') ≡ true → subnormal_found (plain_pattern t') (to_signed 63 (nearest_whole t')) ≡ Rounded v → v ≡ compoundf_accurate x y
+    by_power : (v : Float) → clear_of_switches switch_gap (part_of t') (rest_of t') ≡ true → subnormal_found (plain_pattern t') (to_signed 63 (nearest_whole t')) ≡ Some v → v ≡ compoundf_accurate x y
     by_power v e f =
         let b = reach_bound t' held r.high r.low in
         let s = times_beside (own (reach_some t' held r.high r.low)) (single y fy py) b in
@@ -90,16 +81,16 @@ module _ (x y : Float) (fx : T (fits binary32 x)) (px : T (finite x)) (hx : T (l
         let p = power_of true t t' (sign_below t.hi (reach_apart t' held r.high r.low s.near)) (sign_below t' (reach_negative t' held r.high r.low)) s.number s.near s.low b w.0 w.1 (reach_whole t' held r.high r.low) in
         sym (subnormal p.pattern (plain_pattern t') (to_signed 63 (nearest_whole t')) v p.unscaled p.plain p.over p.under (reach_k t' held r.high r.low) f) ∙ sym p.is ∙ as_power r.not_one
 
-    below : (v : Float) → subnormal_power t' ≡ Rounded v → v ≡ compoundf_accurate x y
+    below : (v : Float) → subnormal_power t' ≡ Some v → v ≡ compoundf_accurate x y
     unfolding subnormal_power
-    below v e = go (wide_of_switches (part_of t') (rest_of t')) refl e
+    below v e = go (clear_of_switches switch_gap (part_of t') (rest_of t')) refl e
       where
-        go : (q : Bool) → wide_of_switches (part_of t') (rest_of t') ≡ q → cond q (subnormal_found (plain_pattern t') (to_signed 63 (nearest_whole t'))) Unsure ≡ Rounded v → v ≡ compoundf_accurate x y
+        go : (q : Bool) → clear_of_switches switch_gap (part_of t') (rest_of t') ≡ q → cond q (subnormal_found (plain_pattern t') (to_signed 63 (nearest_whole t'))) None ≡ Some v → v ≡ compoundf_accurate x y
         go true g e = by_power v g e
-        go false g e = absurd (no_answer v e)
+        go false g e = cc
 
   -- ---- next to 1
-  beside_one : Next y t' → (v : Float) → near_one_found t' ≡ Rounded v → v ≡ compoundf_accurate x y
+  beside_one : Next y t' → (v : Float) → near_one_found t' ≡ Some v → v ≡ compoundf_accurate x y
   beside_one r v e =
       let b = next_bound t' held r.most in
       let l = next_least t' b.number r.least in
@@ -109,11 +100,11 @@ module _ (x y : Float) (fx : T (fits binary32 x)) (px : T (finite x)) (hx : T (l
       size_pos : 0 < 2 ^ 28 * S
       size_pos = unfold S in lit< tt
 
-  pub settled : (v : Float) → plain_slow x y ≡ Rounded v → v ≡ compoundf_accurate x y
+  pub settled : (v : Float) → plain_slow x y ≡ Some v → v ≡ compoundf_accurate x y
   unfolding plain_slow
   settled v e = go (in_reach y t') refl (next_to_one y t') refl e
     where
-      go : (p : Bool) → in_reach y t' ≡ p → (q : Bool) → next_to_one y t' ≡ q → cond p (subnormal_power t') (cond q (near_one_found t') Unsure) ≡ Rounded v → v ≡ compoundf_accurate x y
+      go : (p : Bool) → in_reach y t' ≡ p → (q : Bool) → next_to_one y t' ≡ q → cond p (subnormal_power t') (cond q (near_one_found t') None) ≡ Some v → v ≡ compoundf_accurate x y
       go true f q g e = below (in_parts y t' f) v e
       go false f true g e = beside_one (next_parts y t' g) v e
-      go false f false g e = absurd (no_answer v e)
+      go false f false g e = cc

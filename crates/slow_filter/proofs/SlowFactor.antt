@@ -13,9 +13,10 @@ use Rattle.floats.specs.Operations.{◌⊕◌, ◌⊗◌}
 use Rattle.double_double.specs.declared.DoubleDouble.{DoubleDouble}
 use Rattle.double_double.specs.DoubleDouble.{from_exact_add, from_exact_mult, quick_mult, quick_mult_f64, dd_fmla}
 use Rattle.tables.specs.Tables.{entry, log2p1_poly_p, log2p1_log2_poly}
+use Rattle.fast_path.specs.Fast as Fast
 use Rattle.fast_path.proofs.Coefficients.{fast_first, fast_second, fast_size}
 use Rattle.fast_path.proofs.LogSize.{factor, fast_steps}
-use Rattle.slow_path.specs.Slow.{p, dropping_h, higher, next_log2, log2_poly2}
+use Rattle.slow_path.specs.Slow.{p, with_term, next_log2, higher, log2_poly2}
 use Rattle.slow_path.proofs.Coefficients.{log_size}
 use Rattle.bounds.proofs.Values.{plus, less, Number, of_numbers}
 use Rattle.bounds.proofs.Scales.{S, unit, unit_left, Bound, at, add_bound, mul_bound, fmla_bound}
@@ -40,7 +41,7 @@ abbrev pub slow_factor : Float → Float
 slow_factor z = (third z ⊗ z ⊕ p 2) ⊗ z ⊕ p 0
 
 pub slow_is : (z : DoubleDouble) → (log2_poly2 z).hi ≡ slow_factor z.hi ⊗ z.hi
-unfolding log2_poly2 next_log2 higher dropping_h quick_mult quick_mult_f64 from_exact_mult from_exact_add log2p1_log2_poly entry
+unfolding log2_poly2 next_log2 with_term higher quick_mult quick_mult_f64 from_exact_mult from_exact_add
 slow_is z = refl
 
 -- ---- the coefficients beside the fast path's
@@ -146,6 +147,7 @@ factor_form {z} b =
 
 -- ---- side by side
 pub slow_beside : {s z : Float} → Apart S 100 s z → Bound S (2 ^ 47 + 2 ^ 36) s → Bound S (2 ^ 47 + 2 ^ 33) z → Apart S 45000 (slow_factor s) (factor z)
+unfolding Fast.factor
 slow_beside {s} {z} a b b' =
     let one = unit_left unit in
     let c = coefficients in

@@ -1,26 +1,23 @@
 -- The plain evaluation in front of the slow path, for answers below the normal f32s and next to 1. It stands in no document; the theorem says that what it finds is the slow path's answer
 -- (`settled` in proofs/Settled.antt).
-use Rattle.std.specs.Prelude.{Bool, false, cond, ◌&&◌, negsuc, Float}
+use Rattle.std.specs.Prelude.{Bool, false, cond, ◌&&◌, negsuc, Option, None, Float}
 use Rattle.std.specs.Float.{fin}
 use Rattle.std.specs.Float.Ieee.{to_signed, le, ne}
 use Rattle.floats.specs.Operations.{◌⊗◌, f64}
 use Rattle.floats.specs.Narrowing.{nearest_whole}
 use Rattle.floats.specs.OnBits.{absolute}
 use Rattle.special.specs.Special.{one}
-use Rattle.filter.specs.Plain.{plain_factor, plain_log2p1, part_of, rest_of, plain_pattern, slow_from, slow_to}
-use Rattle.slow_filter.specs.declared.SlowFound.{SlowFound}
-use Rattle.slow_filter.specs.declared.SlowFound.TheVariants.{Unsure}
+use Rattle.filter.specs.Plain.{plain_factor, plain_log2p1, part_of, rest_of, plain_pattern, clear_of_switches, slow_from, slow_to}
 use Rattle.slow_filter.specs.Subnormal.{subnormal_found}
 use Rattle.slow_filter.specs.NearOne.{near_one_found}
 
--- whether k and the index stay the same within 2^-27: |part| is at most 1/2 - 2^-27, and |rest| at most 1/64 - 2^-27
-unfoldable pub wide_of_switches : Float → Float → Bool
-wide_of_switches part rest =
-    (le part (f64 0x3fdffffff8000000) && le (f64 0xbfdffffff8000000) part) && (le rest (f64 0x3f8fffff00000000) && le (f64 0xbf8fffff00000000) rest)
+-- k and the index stay the same within 2^-27
+abbrev pub switch_gap : Float
+switch_gap = f64 0x3e40000000000000
 
 -- t from -149.5 to -128
-unfoldable pub subnormal_power : Float → SlowFound
-subnormal_power t = cond (wide_of_switches (part_of t) (rest_of t)) (subnormal_found (plain_pattern t) (to_signed 63 (nearest_whole t))) Unsure
+unfoldable pub subnormal_power : Float → Option Float
+subnormal_power t = cond (clear_of_switches switch_gap (part_of t) (rest_of t)) (subnormal_found (plain_pattern t) (to_signed 63 (nearest_whole t))) None
 
 -- from this size on 1 + x keeps x
 abbrev pub kept_from : Float
@@ -45,7 +42,7 @@ unfoldable pub next_to_one : Float → Float → Bool
 next_to_one y t = ne y one && (le (absolute t) next_to && le next_from (absolute t))
 
 -- what is found of x and y
-unfoldable pub plain_slow : Float → Float → SlowFound
+unfoldable pub plain_slow : Float → Float → Option Float
 plain_slow x y =
     let t = plain_log x ⊗ y in
-    cond (in_reach y t) (subnormal_power t) (cond (next_to_one y t) (near_one_found t) Unsure)
+    cond (in_reach y t) (subnormal_power t) (cond (next_to_one y t) (near_one_found t) None)

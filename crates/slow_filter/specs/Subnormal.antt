@@ -1,12 +1,10 @@
 -- Rounding the plain value below the normal f32s. It stands in no document; the theorem says when the slow path's value rounds to the same
 -- (`subnormal` in proofs/Subnormal.antt).
-use Rattle.std.specs.Prelude.{ℕ, ◌+◌, ◌-◌, ◌^◌, ◌≤◌, ◌<◌, cond, eqb, ℤ, pos, negsuc}
+use Rattle.std.specs.Prelude.{ℕ, ◌+◌, ◌-◌, ◌^◌, ◌≤◌, ◌<◌, cond, eqb, Option, Some, None, ℤ, pos, negsuc, Float}
 use Rattle.std.specs.Float.{binary32, binary64}
 use Rattle.std.specs.Float.Ieee.{to_bits, of_bits}
 use Rattle.floats.specs.Operations.{◌⊕◌, f64}
 use Rattle.fast_path.specs.Scaling.{scaled}
-use Rattle.slow_filter.specs.declared.SlowFound.{SlowFound}
-use Rattle.slow_filter.specs.declared.SlowFound.TheVariants.{Rounded, Unsure}
 
 -- k is from -150 to -127: a value from 1/2 to 2 times 2^k is from 2^-151 to 2^-126
 abbrev pub BelowNormal : ℤ → Type 0
@@ -18,9 +16,9 @@ unfoldable pub subnormal_sum : ℕ → ℕ
 subnormal_sum w = to_bits binary64 (f64 w ⊕ f64 0x39e0000000000000)
 
 -- the pattern w, scaled: where 2^25 less and 2^25 more are rounded to one f32, it is the answer; else nothing is sure
-unfoldable pub rounded_subnormal : ℕ → SlowFound
-rounded_subnormal w = cond (eqb (subnormal_sum (w - 2 ^ 25)) (subnormal_sum (w + 2 ^ 25))) (Rounded (of_bits binary32 (subnormal_sum (w - 2 ^ 25) - 0x39e0000000000000))) Unsure
+unfoldable pub rounded_subnormal : ℕ → Option Float
+rounded_subnormal w = cond (eqb (subnormal_sum (w - 2 ^ 25)) (subnormal_sum (w + 2 ^ 25))) (Some (of_bits binary32 (subnormal_sum (w - 2 ^ 25) - 0x39e0000000000000))) None
 
 -- for the pattern b before it is scaled
-unfoldable pub subnormal_found : ℕ → ℤ → SlowFound
+unfoldable pub subnormal_found : ℕ → ℤ → Option Float
 subnormal_found b k = rounded_subnormal (scaled b k)

@@ -15,103 +15,85 @@ ghost use Rattle.slow_filter.specs.Subnormal as spec;
 ghost use Rattle.slow_filter.specs.NearOne as near;
 ghost use Rattle.slow_filter.specs.Plain as plain;
 
-use fast_path::power_index;
+use fast_path::evaluation::{factor, log2p1};
 use fast_path::scaling::scaled;
-use filter::plain::{plain_factor, plain_log2p1, plain_power};
-use floats::common::abs;
-use floats::rounding::round_ties_even_small;
+use filter::midpoints::narrowed_pattern;
+use filter::plain::Plain;
+use filter::split::Split;
 use slow_path::compoundf_accurate;
-use tables::{compoundf_exp2_t, poly_q2};
+use special::operands::Operands;
+use tables::{PolyQ2, Table};
 
-// What is found of a value: the f32 that the slow path rounds it to, or nothing.
-#[derive(Clone, Copy)]
-pub enum SlowFound {
-    Rounded(f32),
-    Unsure,
-}
+// 2^-97: the last place of an f64 from there to 2^-96 is that of an f32 below 2^-126, so a sum with it
+// is rounded where the f32 is.
+const OFFSET: f64 = f64::from_bits(OFFSET_BITS);
+
+const OFFSET_BITS: u64 = 0x39e0_0000_0000_0000;
+
+// 2^-27: further than this from a switch of k or of the index, the slow path's own t is on the same side
+// of it.
+const SWITCH_GAP: f64 = f64::from_bits(0x3e40_0000_0000_0000);
+
+// A pattern next to 1 that is further than this from every midpoint of two f32s settles the answer.
+const MARGIN: u64 = 8;
+
+// 2^-29: below, 1 + x does not keep x.
+const KEPT_FROM: f64 = f64::from_bits(0x3e20_0000_0000_0000);
+
+// 2^-25 and 2^-16: a t of such a size is next to 1.
+const NEXT_FROM: f64 = f64::from_bits(0x3e60_0000_0000_0000);
+
+const NEXT_TO: f64 = f64::from_bits(0x3ef0_0000_0000_0000);
 
 // The answer of the plain pattern w, from 1/2 to 2, and its k, from -150 to -127, where no midpoint of
 // two f32s is within 2^25 of the scaled pattern.
-fn rounded_subnormal(w: u64, k: i64) -> SlowFound
+fn rounded_subnormal(w: u64, k: i64) -> Option<f32>
     requires w_least { 1022 * 2 ^ 52 ≤ w }
     requires w_below { w < 1024 * 2 ^ 52 }
     requires below_normal { spec.BelowNormal k }
     ensures { result ≡ spec.subnormal_found w k }
 {
     let m = scaled(w, k);
-    // 2^-97: the last place of an f64 from there to 2^-96 is that of an f32 below 2^-126, so a sum
-    // with it is rounded where the f32 is
-    let offset = f64::from_bits(0x39e0_0000_0000_0000);
-    let low = f64::to_bits(f64::from_bits(m - 0x200_0000) + offset);
-    let high = f64::to_bits(f64::from_bits(m + 0x200_0000) + offset);
+    let low = f64::to_bits(f64::from_bits(m - 0x200_0000) + OFFSET);
+    let high = f64::to_bits(f64::from_bits(m + 0x200_0000) + OFFSET);
     if low == high {
-        return SlowFound::Rounded(f32::from_bits((low - 0x39e0_0000_0000_0000) as u32));
+        Some(f32::from_bits((low - OFFSET_BITS) as u32))
+    } else {
+        None
     }
-    SlowFound::Unsure
-}
-
-// Whether no switch of k or of the index is near.
-fn wide_of_switches(part: f64, rest: f64) -> bool
-    ensures { result ≡ plain.wide_of_switches part rest }
-{
-    // 1/2 - 2^-27 and 1/64 - 2^-27
-    let of_k = (part <= f64::from_bits(0x3fdf_ffff_f800_0000))
-        & (part >= f64::from_bits(0xbfdf_ffff_f800_0000));
-    let of_index = (rest <= f64::from_bits(0x3f8f_ffff_0000_0000))
-        & (rest >= f64::from_bits(0xbf8f_ffff_0000_0000));
-    of_k & of_index
 }
 
 // For t from -149.5 to -128.
-fn subnormal_power(t: f64) -> SlowFound
+fn subnormal_power(t: f64) -> Option<f32>
     requires t_most { T (le t slow_to) }
     requires t_least { T (le slow_from t) }
     ensures { result ≡ plain.subnormal_power t }
 {
-    let k = round_ties_even_small(t);
-    let part = t - k;
-    let i = power_index(part);
-    // This never happens; the test tells the compiler the range, so that the tables need none.
-    if i > 32 {
-        return SlowFound::Unsure;
+    let s = Split::of(t);
+    if s.is_clear(SWITCH_GAP) {
+        rounded_subnormal(s.power(), s.k)
+    } else {
+        None
     }
-    let rest = part - compoundf_exp2_t(i);
-    if wide_of_switches(part, rest) {
-        return rounded_subnormal(plain_power(i, rest), k as i64);
-    }
-    SlowFound::Unsure
 }
 
 // Near 2^z for |z| <= 2^-16.
+#[tactic(auto, unfolding(crate::specs::NearOne::near_one_power))]
 fn near_one_power(z: f64) -> f64
     ensures { result ≡ near.near_one_power z }
 {
-    let c2 = poly_q2(3) + poly_q2(5) * z;
-    let c1 = poly_q2(1) + c2 * z;
-    poly_q2(0) + c1 * z
-}
-
-// The answer of the plain pattern w, from 1/2 to 2, where no midpoint of two f32s is within 2^3. Of its
-// digits an f32 drops 29, and at a midpoint these are 2^28; 896 * 2^23 is what the exponents' fields
-// differ by.
-fn rounded_near_one(w: u64) -> SlowFound
-    requires w_least { 1022 * 2 ^ 52 ≤ w }
-    requires w_below { w < 1024 * 2 ^ 52 }
-    ensures { result ≡ near.rounded_near_one w }
-{
-    if (w + 0x1000_0008) % 0x2000_0000 > 0x10 {
-        let n = (w + 0x1000_0000) / 0x2000_0000 - 0x1_c000_0000;
-        return SlowFound::Rounded(f32::from_bits(n as u32));
-    }
-    SlowFound::Unsure
+    let c2 = PolyQ2::at(3) + PolyQ2::at(5) * z;
+    let c1 = PolyQ2::at(1) + c2 * z;
+    PolyQ2::at(0) + c1 * z
 }
 
 // For |t| at most 2^-16.
-fn near_one_found(t: f64) -> SlowFound
+#[tactic(auto, unfolding(crate::specs::NearOne::near_one_found))]
+fn near_one_found(t: f64) -> Option<f32>
     requires { T (le (absolute t) plain.next_to) }
     ensures { result ≡ near.near_one_found t }
 {
-    rounded_near_one(f64::to_bits(near_one_power(t)))
+    narrowed_pattern(f64::to_bits(near_one_power(t)), MARGIN)
 }
 
 // The plain logarithm of 1 + x.
@@ -119,11 +101,11 @@ fn plain_log(x: f64) -> f64
     requires { T (lt minus_one x) }
     ensures { result ≡ plain.plain_log x }
 {
-    // 2^-29: below, 1 + x does not keep x
-    if abs(x) >= f64::from_bits(0x3e20_0000_0000_0000) {
-        return plain_log2p1(x);
+    if x.abs() >= KEPT_FROM {
+        log2p1::<Plain>(x)
+    } else {
+        x * factor::<Plain>(x)
     }
-    x * plain_factor(x)
 }
 
 // Whether the plain evaluation is near enough below the normal f32s.
@@ -137,40 +119,30 @@ fn in_reach(y: f64, t: f64) -> bool
 fn next_to_one(y: f64, t: f64) -> bool
     ensures { result ≡ plain.next_to_one y t }
 {
-    let size = abs(t);
-    // 2^-16 and 2^-25
-    let between = (size <= f64::from_bits(0x3ef0_0000_0000_0000))
-        & (size >= f64::from_bits(0x3e60_0000_0000_0000));
+    let size = t.abs();
+    let between = (size <= NEXT_TO) & (size >= NEXT_FROM);
     (y != 1.0) & between
 }
 
 // What the plain evaluation finds of x and y.
-fn plain_slow(x: f64, y: f64) -> SlowFound
+#[tactic(auto, unfolding(crate::specs::Plain::plain_slow, crate::specs::Plain::in_reach, crate::specs::Plain::next_to_one))]
+fn plain_slow(x: f64, y: f64) -> Option<f32>
     requires { T (lt minus_one x) }
     ensures { result ≡ plain.plain_slow x y }
 {
     let t = plain_log(x) * y;
     if in_reach(y, t) {
-        return subnormal_power(t);
+        subnormal_power(t)
+    } else if next_to_one(y, t) {
+        near_one_found(t)
+    } else {
+        None
     }
-    if next_to_one(y, t) {
-        return near_one_found(t);
-    }
-    SlowFound::Unsure
 }
 
-// (1 + x)^y for the route `slow`, as `compoundf_accurate` has it, x and y being the f64s of two finite
-// f32s.
-pub fn slow_answer(x: f64, y: f64) -> f32
-    requires x_fits { T (fits binary32 x) }
-    requires x_finite { T (finite x) }
-    requires x_above { T (lt minus_one x) }
-    requires y_fits { T (fits binary32 y) }
-    requires y_finite { T (finite y) }
-    ensures { result ≡ compoundf_accurate x y }
+// (1 + x)^y for the route `slow`, as `compoundf_accurate` has it.
+pub fn slow_answer(pair: Operands) -> f32
+    ensures { result ≡ compoundf_accurate pair.x pair.y }
 {
-    match plain_slow(x, y) {
-        SlowFound::Rounded(v) => v,
-        SlowFound::Unsure => compoundf_accurate(x, y),
-    }
+    plain_slow(pair.x, pair.y).unwrap_or_else(|| compoundf_accurate(pair.base(), pair.y))
 }

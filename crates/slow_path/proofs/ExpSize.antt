@@ -7,7 +7,7 @@ use Rattle.floats.specs.Operations.{◌⊖◌}
 use Rattle.double_double.specs.declared.DoubleDouble.{DoubleDouble}
 use Rattle.double_double.specs.DoubleDouble.{from_exact_add, from_exact_mult, quick_mult}
 use Rattle.tables.specs.Tables.{entry, compoundf_exp2_t}
-use Rattle.slow_path.specs.Slow.{q2, next_exp2, highest_exp2, compoundf_exp2_poly2, exp2_product}
+use Rattle.slow_path.specs.Slow.{q2, with_term, next_exp2, highest_exp2, compoundf_exp2_poly2, exp2_product}
 use Rattle.bounds.proofs.Scales.{S, unit, Bound, Bounds, at, unit_left, add_bound, mul_bound, fast_bounds, quick_bounds, fmla_bound}
 use Rattle.bounds.proofs.Compared.{Positive, positive_at, positive_bound, positive_add, positive_mul}
 use Rattle.fast_path.proofs.Coefficients.{power_hi, power_lo}
@@ -29,7 +29,7 @@ highest_size {z} b =
 
 -- one step
 next_size : {q z : DoubleDouble} (i : ℕ) → i < 12 → Bound S 1 (q2 (i + 1)) → Bounds S (2 ^ 54) (2 ^ 12) q → Bounds S (2 ^ 48 + 2 ^ 41) (2 ^ 10) z → Bounds S (2 ^ 54) (2 ^ 12) (next_exp2 q z i)
-unfolding next_exp2
+unfolding next_exp2 with_term
 next_size {q} {z} i h second b c =
     let q' = quick_bounds (unit_left unit) b c tt in
     let t = fast_bounds (q2_size i h) (at (2 ^ 51) q'.hi tt) tt in

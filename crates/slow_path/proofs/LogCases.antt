@@ -11,7 +11,7 @@ use Rattle.tables.specs.Tables.{entry, pair_entry, log2p1_compoundf_inv, log2p1_
 use Rattle.tables.proofs.Entries.{scale_rule}
 use Rattle.special.specs.Special.{one, minus_one}
 use Rattle.fast_path.specs.Scaling.{scaled, biased, exponent_of}
-use Rattle.fast_path.specs.Fast.{inverse_index, HasInverse, log2p1_polyeval1, compoundf_log2p1_fast}
+use Rattle.fast_path.specs.Fast.{inverse_index, HasInverse, log2p1, log2p1_polyeval1, compoundf_log2p1_fast}
 use Rattle.slow_path.specs.Slow.{one_plus, times_inverse, log2_reduced, log2_poly2, sum_of_logs, compoundf_log2p1_accurate}
 use Rattle.fast_path.proofs.Index.{reduced_index}
 use Rattle.slow_path.proofs.Scaled.{times_scale}
@@ -22,7 +22,7 @@ use Rattle.bounds.proofs.Exactly.{Off, fmla_minus_one}
 use Rattle.bounds.proofs.OwnScale.{Nil, nil_sum, nil_product, on_own}
 use Rattle.fast_path.proofs.Coefficients.{inverse_log_hi, inverse_log_lo}
 use Rattle.fast_path.proofs.InverseSlot.{inverse_slot, inverse_size}
-use Rattle.fast_path.proofs.LogSize.{fast_is, fast_factor, product_size, part_size}
+use Rattle.fast_path.proofs.LogSize.{fast_factor, product_size, part_size}
 use Rattle.slow_path.proofs.LogSize.{poly_size}
 use Rattle.slow_path.proofs.Logs.{Logs, far_whole, far_part, near}
 use Rattle.slow_path.proofs.LowPart.{one_is_1, scale_size, Low, low_part, low_bound, one_large}
@@ -64,7 +64,7 @@ module _ (x : Float) (v : ℕ) (is_v : v ≡ to_bits binary64 (one ⊕ x)) (low 
   z' = from_exact_add z (r ⊗ ((one_plus x).lo ⊗ s))
 
   pub fast_logs : compoundf_log2p1_fast x ≡ e ⊕ (a.hi ⊕ log2p1_polyeval1 z)
-  unfolding compoundf_log2p1_fast e t i r z a
+  unfolding log2p1 e t i r z a
   fast_logs =
       ap (λ (n : ℕ).
       of_int binary64 (exponent_of n) ⊕ ((pair_entry log2p1_compoundf_log2_inv (inverse_index (f64 (scaled n (neg_ℤ (exponent_of n)))))).hi
@@ -107,7 +107,7 @@ module _ (x : Float) (v : ℕ) (is_v : v ≡ to_bits binary64 (one ⊕ x)) (low 
   a_size = record { hi = inverse_log_hi i inside; lo = inverse_log_lo i inside }
 
   p_size : Bound S (47 * 2 ^ 42 + 2 ^ 36) (log2p1_polyeval1 z)
-  p_size = subst (Bound S (47 * 2 ^ 42 + 2 ^ 36)) (sym (fast_is z)) (product_size z_size)
+  p_size = product_size z_size
 
   -- the low part, and what the inverse makes of it
   u_size : Bound S (2 ^ 182) (one ⊕ x)
@@ -186,7 +186,7 @@ module _ (x : Float) (v : ℕ) (is_v : v ≡ to_bits binary64 (one ⊕ x)) (low 
 
     -- z is 0, and so is the logarithm
     nil_case : Nil z → Nil (compoundf_log2p1_fast x)
-    nil_case h = subst Nil (sym (fast_logs ∙ ap (λ (k : Float). e ⊕ (a.hi ⊕ k)) (fast_is z))) (nil_sum e_nil (nil_sum high_nil (nil_product h (fast_factor z_size).number)))
+    nil_case h = subst Nil (sym fast_logs) (nil_sum e_nil (nil_sum high_nil (nil_product h (fast_factor z_size).number)))
 
     -- z is not 0: both logarithms are on its scale
     near_case : 0 < off.parts → Logs (compoundf_log2p1_fast x) (compoundf_log2p1_accurate x)

@@ -4,21 +4,20 @@ use Rattle.std.proofs.Common.{◌≡◌, ℕ, ◌+◌, ◌*◌, ◌^◌, ◌<◌
 use lib.Ieee.{Float}
 use Rattle.double_double.specs.declared.DoubleDouble.{DoubleDouble}
 use Rattle.double_double.specs.DoubleDouble.{quick_mult_f64, dd_fmla}
-use Rattle.tables.specs.Tables.{entry, log2p1_log2_poly}
-use Rattle.slow_path.specs.Slow.{p, dropping_h, next_log2, higher, log2_poly2, sum_of_logs}
+use Rattle.slow_path.specs.Slow.{p, with_term, next_log2, higher, log2_poly2, sum_of_logs}
 use Rattle.bounds.proofs.Scales.{S, unit, unit_left, Scale, Bound, Bounds, at, ok, sum_k, product_k, fast_k, quick_lo_k, quick_ok, add_bound, fast_bounds, quick_bounds, quick_f64_bounds, fmla_bound}
 use Rattle.slow_path.proofs.Coefficients.{log_size, log_second}
 
 -- ---- the accurate polynomial
 -- of the loop over the higher coefficients only the last turn counts
 higher_is : (z : Float) → dd_fmla z z (p 16) ≡ higher z
-unfolding higher dropping_h log2p1_log2_poly entry
+unfolding higher
 higher_is z = refl
 
 -- one step, for a z on any scale
 next_size : {μ K k : ℕ} {v z : DoubleDouble} (i : ℕ) → i < 5 → Scale μ → Bounds S (2 ^ 49) (2 ^ 6) v → Bounds μ K k z → T (quick_ok (2 ^ 54) (2 ^ 7) K k)
     → Bounds μ (product_k (2 ^ 54) K) (quick_lo_k (2 ^ 54) (2 ^ 7) K k) (next_log2 v z (2 * i))
-unfolding next_log2
+unfolding next_log2 with_term
 next_size {μ} {K} {k} {v} {z} i h s b c o =
     let t = fast_bounds b.hi (log_size (2 * i) (double i h)) tt in
     let lo = add_bound b.lo (add_bound (at 7 t.lo tt) (log_second i h) tt) tt in
@@ -76,9 +75,4 @@ logs_size {μ} {E} {A} {a} {B} {b} {e} {x} {y} p q r g =
     record { hi = sum.hi; lo = add_bound sum.lo (add_bound sLo r.lo o.3) o.4 }
   where
     five : (a b c d e : Bool) → T (a && b && c && d && e) → T a × T b × T c × T d × T e
-    five true true true true true h = (tt, tt, tt, tt, tt)
-    five false _ c d _ h = elim h [ ]
-    five true false c d _ h = elim h [ ]
-    five true true false d _ h = elim h [ ]
-    five true true true false _ h = elim h [ ]
-    five true true true true false h = elim h [ ]
+    five a b c d e h = grind arith

@@ -1,7 +1,7 @@
 -- The two logarithms beside each other: wherever the fast one is l, the accurate one is at most 6.5 × |l| in its hi and 2^-39 × |l| in its lo (`Logs`). Three cases:
 -- the exponent e of 1 + x is not 0 (`far_whole`); e is 0 and the inverse is not 1 (`far_part`); e is 0 and the inverse is 1 (`near`), where z is 1 + x less 1 and
 -- both logarithms are on the scale of z. Assumes nothing.
-use Rattle.std.proofs.Common.{◌≡◌, ℕ, ◌+◌, ◌-◌, ◌*◌, ◌/◌, ◌^◌, ◌<◌, ◌≤◌, sym, ap, ◌∙◌, subst, le_trans, le_of_eq, le_refl, mul-le-mul_right, mul_assoc, mul-le-mul, mul-pos, one-mul, arith, lit<, lit≤, pow_pos}
+use Rattle.std.proofs.Common.{◌≡◌, ℕ, ◌+◌, ◌-◌, ◌*◌, ◌/◌, ◌^◌, ◌<◌, ◌≤◌, sym, ap, ◌∙◌, le_trans, le_of_eq, le_refl, mul-le-mul_right, mul_assoc, mul-le-mul, mul-pos, one-mul, arith, lit<, lit≤, pow_pos}
 use lib.Ieee.{Float}
 use Rattle.floats.specs.Operations.{◌⊕◌}
 use Rattle.double_double.specs.declared.DoubleDouble.{DoubleDouble}
@@ -12,7 +12,7 @@ use Rattle.bounds.proofs.Values.{per_one, mag, Number}
 use Rattle.bounds.proofs.Scales.{S, one_is, unit, Scale, Bound, Bounds, at, onto, add_bound}
 use Rattle.bounds.proofs.Distances.{not_more, apart_at, apart_through, add_apart, add_apart_right, not_less}
 use Rattle.bounds.proofs.OwnScale.{Nil, nil_bound, Own}
-use Rattle.fast_path.proofs.LogSize.{fast_is, part_size, nil_size, part_least, own_product, near_least}
+use Rattle.fast_path.proofs.LogSize.{part_size, nil_size, part_least, own_product, near_least}
 use Rattle.slow_path.proofs.LogSize.{poly_size, logs_size}
 
 pub record Logs (l : Float) (L : DoubleDouble) : Type 0 where
@@ -188,10 +188,10 @@ near {σ} {e} {z} {a} {z'} o b n h l bounds own =
     let high = nil_bound σ scale h in
     let sum = add_bound zero (at (2 ^ 54) (add_bound high (own_product o b) tt) tt) tt in
     let logs = logs_size zero (record { hi = high; lo = nil_bound σ scale l }) (poly_size scale bounds own tt) tt in
-    subst (λ (k : Float). Logs (e ⊕ (a.hi ⊕ k)) (sum_of_logs e a (log2_poly2 z'))) (sym (fast_is z)) (record {
+    record {
       μ = σ;
       scale = scale;
       size = le_trans (mul-le-mul_right σ (lit≤ tt)) (near_least n h o b);
       above = onto S (2 ^ 62) unit sum (mul-le-mul (lit≤ tt) o.most);
       accurate = record { hi = at (13 * 2 ^ 52) logs.hi tt; lo = at (2 ^ 14) logs.lo tt };
-    })
+    }

@@ -1,10 +1,9 @@
 -- 1 + x, as the accurate logarithm has it, and the scale that it multiplies it by: the pattern of 1 + x is one that the table of the scales covers, and
 -- the product is 1 + x with its power of two taken out. Assumes nothing.
 use Rattle.std.proofs.Common.{◌≡◌, ℕ, suc, ◌+◌, ◌-◌, ◌*◌, ◌/◌, ◌%◌, ◌^◌, ◌<◌, ◌≤◌, Bool, true, false, cond, T, negsuc, neg_ℤ, sym, ap, ◌∙◌, subst, lt_trans, arith, lit<, lit≤}
-use lib.Ieee.{Float, fin, binary32, binary64, minus, add, mul, le, lt, fits, to_bits, of_bits}
+use lib.Ieee.{Float, fin, binary64, minus, add, mul, le, fits, to_bits, of_bits}
 use lib.Ieee.Bits.{of_bits-to_bits}
 use lib.Ieee.Fits.{add-fits}
-use lib.Ieee.Scale.{finite}
 use Rattle.floats.specs.Narrowing.{narrowed}
 use Rattle.floats.specs.OnBits.{absolute}
 use Rattle.floats.proofs.Laws.Powers.{mul_power}
@@ -12,7 +11,8 @@ use Rattle.floats.proofs.Laws.Sums.{add_turned}
 use Rattle.double_double.specs.DoubleDouble.{from_exact_add}
 use Rattle.tables.specs.Tables.{entry, log2p1_scale}
 use Rattle.tables.proofs.Entries.{scale_rule}
-use Rattle.special.specs.Special.{one, minus_one}
+use Rattle.special.specs.Special.{one}
+use Rattle.special.specs.Operands.{IsBase}
 use Rattle.fast_path.specs.Scaling.{scaled, biased, exponent_of}
 use Rattle.fast_path.specs.Fast.{HasInverse}
 use Rattle.slow_path.specs.Slow.{one_plus}
@@ -32,11 +32,18 @@ high_part P x a b c = go (le x one) (le (fin false 1 (negsuc 52)) (absolute (nar
     go false v = c
 
 -- so its high part is from 2^-24 to 2^128 - 2^104
-pub one_plus_bits : (x : Float) → T (fits binary32 x) → T (finite x) → T (lt minus_one x) → (999 * 2 ^ 52 ≤ to_bits binary64 (one_plus x).hi) × (to_bits binary64 (one_plus x).hi < 1151 * 2 ^ 52)
+pub one_plus_bits : (x : Float) → IsBase x → InScale (to_bits binary64 (one_plus x).hi)
 unfolding to_bits
-one_plus_bits x f p h =
-    let b = sum_bits x f p h in
+one_plus_bits x a =
+    let b = sum_bits x a.x_fits a.x_finite a.x_above in
     high_part (λ (y : Float). InScale (to_bits binary64 y)) x b (lit≤ tt, lit< tt) (subst (λ (y : Float). InScale (to_bits binary64 y)) (add_turned binary64 one x) b)
+
+-- and its field from 999 to 1151
+pub biased_range : (v : ℕ) → InScale v → (999 ≤ biased v) × (biased v ≤ 1151)
+biased_range v r = go (biased v) (biased_near v).0 (biased_near v).1 r.0 r.1
+  where
+    go : (b : ℕ) → v / 2 ^ 52 ≤ b → b ≤ v / 2 ^ 52 + 1 → 999 * 2 ^ 52 ≤ v → v < 1151 * 2 ^ 52 → (999 ≤ b) × (b ≤ 1151)
+    go b l u lo hi = (omega arith, omega arith)
 
 -- ---- the scale that goes with the pattern
 -- the fields of v and of v with b taken out: x + 1 and y + 1, over the digits t
@@ -84,13 +91,13 @@ times_scale v lo hi =
     )
 
 -- so the entry is inside its table, and what is left has an inverse
-pub accurate_index : (x : Float) → T (fits binary32 x) → T (finite x) → T (lt minus_one x)
+pub accurate_index : (x : Float) → IsBase x
     → let v = to_bits binary64 (one_plus x).hi in
     let h = mul binary64 (one_plus x).hi (entry log2p1_scale (biased v + 29 - 1023)) in
     (biased v + 29 - 1023 < 158) × HasInverse h
-accurate_index x f p h =
+accurate_index x a =
     let v = to_bits binary64 (one_plus x).hi in
-    let b = one_plus_bits x f p h in
+    let b = one_plus_bits x a in
     let s = times_scale v b.0 b.1 in
     let fit : T (fits binary64 (one_plus x).hi) = high_part (λ (y : Float). T (fits binary64 y)) x (add-fits binary64 one x) (unfold fits in tt) (add-fits binary64 x one) in
     let e : of_bits binary64 (scaled v (neg_ℤ (exponent_of v))) ≡ mul binary64 (one_plus x).hi (entry log2p1_scale (biased v + 29 - 1023)) =

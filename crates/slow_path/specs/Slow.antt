@@ -1,7 +1,7 @@
 -- Document 01, "Table path" and "Traps for the translator": `compoundf_log2p1_accurate` and `compoundf_exp2_accurate`, line by line with the
 -- source, at every double-double. One sum stands the other way round, which changes nothing: the source's `2.0 + v_dd.hi` is `inverse_index`'s t + 2,
 -- as the fast path has it.
-use Rattle.std.specs.Prelude.{ℕ, ◌+◌, ◌-◌, ◌%◌, ◌^◌, min, Bool, true, false, cond, ◌&&◌, List, [], ◌∷◌, take, drop, ℤ, pos, negsuc, ◌==◌, nat_le, to_bits, Float}
+use Rattle.std.specs.Prelude.{ℕ, ◌+◌, ◌-◌, ◌%◌, ◌^◌, min, Bool, true, false, cond, ◌&&◌, [], ◌∷◌, ℤ, pos, negsuc, ◌==◌, nat_le, to_bits, fold, Float}
 use Rattle.std.specs.Float.{fin, binary32, binary64}
 use Rattle.std.specs.Float.Ieee.{add, lt, le, eq, ne, of_int, to_signed}
 use Rattle.floats.specs.Operations.{◌⊕◌, ◌⊖◌, ◌⊗◌, f64}
@@ -21,20 +21,18 @@ p i = entry log2p1_log2_poly i
 abbrev pub q2 : ℕ → Float
 q2 i = entry exp2_poly_q2 i
 
--- "In `log2_poly2` the loop over the higher coefficients drops h at each turn": the loop over the coefficients that are left, from h on
-unfoldable pub dropping_h : Float → List ℕ → Float → Float
-dropping_h z [] h = h
-dropping_h z (c ∷ cs) h = dropping_h z cs (dd_fmla z z (f64 c))
+-- What both polynomials do with the coefficient of a degree, for the sum t of its hi and v's: v.hi = t.hi and v.lo += t.lo + lo.
+unfoldable pub with_term : DoubleDouble → DoubleDouble → Float → DoubleDouble
+with_term v t lo = record { lo = v.lo ⊕ (t.lo ⊕ lo); hi = t.hi }
 
 -- One step of `log2_poly2`: the coefficient in entries i and i + 1 is added to v, and the sum is multiplied by z.
 unfoldable pub next_log2 : DoubleDouble → DoubleDouble → ℕ → DoubleDouble
-next_log2 v z i =
-    let t = from_exact_add v.hi (p i) in
-    quick_mult (record { lo = v.lo ⊕ (t.lo ⊕ p (i + 1)); hi = t.hi }) z
+next_log2 v z i = quick_mult (with_term v (from_exact_add v.hi (p i)) (p (i + 1))) z
 
--- the loop runs over entries 11 to 16, and starts with entry 17. So only entry 16 counts (`higher_is` in proofs/higher/Answers.antt).
+-- "In `log2_poly2` the loop over the higher coefficients drops h at each turn": the loop runs over entries 11 to 16, and starts with entry 17. So only entry 16 counts
+-- (`higher_is` in proofs/LogSize.antt).
 unfoldable pub higher : Float → Float
-higher z = dropping_h z (take 6 (drop 11 log2p1_log2_poly)) (p 17)
+higher z = fold (λ h i. dd_fmla z z (p i)) (p 17) (11 ∷ 12 ∷ 13 ∷ 14 ∷ 15 ∷ 16 ∷ [])
 
 -- `log2_poly2`: near log2(1 + z)
 unfoldable pub log2_poly2 : DoubleDouble → DoubleDouble
@@ -43,11 +41,7 @@ log2_poly2 z =
     let v = quick_mult_f64 z h in
     let t = from_exact_add v.hi (p 10) in
     let v10 = quick_mult (record { lo = v.lo ⊕ t.lo; hi = t.hi }) z in
-    let v8 = next_log2 v10 z 8 in
-    let v6 = next_log2 v8 z 6 in
-    let v4 = next_log2 v6 z 4 in
-    let v2 = next_log2 v4 z 2 in
-    next_log2 v2 z 0
+    fold (λ v i. next_log2 v z i) v10 (8 ∷ 6 ∷ 4 ∷ 2 ∷ 0 ∷ [])
 
 -- 1 + x as a double-double, at the start of `compoundf_log2p1_accurate`
 unfoldable pub one_plus : Float → DoubleDouble
@@ -88,8 +82,7 @@ compoundf_log2p1_accurate x =
 unfoldable pub next_exp2 : DoubleDouble → DoubleDouble → ℕ → DoubleDouble
 next_exp2 q z i =
     let q' = quick_mult q z in
-    let t = from_exact_add (q2 i) q'.hi in
-    record { lo = q'.lo ⊕ (t.lo ⊕ q2 (i + 1)); hi = t.hi }
+    with_term q' (from_exact_add (q2 i) q'.hi) (q2 (i + 1))
 
 -- the terms of degree 4 and above, in f64: z is the source's z.hi
 unfoldable pub highest_exp2 : Float → DoubleDouble
@@ -104,10 +97,7 @@ highest_exp2 z =
 -- `compoundf_exp2_poly2`: near 2^z
 unfoldable pub compoundf_exp2_poly2 : DoubleDouble → DoubleDouble
 compoundf_exp2_poly2 z =
-    let q7 = highest_exp2 z.hi in
-    let q5 = next_exp2 q7 z 5 in
-    let q3 = next_exp2 q5 z 3 in
-    let q1 = next_exp2 q3 z 1 in
+    let q1 = fold (λ q i. next_exp2 q z i) (highest_exp2 z.hi) (5 ∷ 3 ∷ 1 ∷ []) in
     let q = quick_mult q1 z in
     let t = from_exact_add (q2 0) q.hi in
     record { lo = q.lo ⊕ t.lo; hi = t.hi }
@@ -120,7 +110,7 @@ clamped_index r = min (power_index r) 32
 
 -- "in the scaling a k past 1000 or -1000 counts as that end and a NaN k as 0", which is what `to_signed` makes of a NaN
 unfoldable pub clamped_k : Float → ℤ
-clamped_k k = cond (lt (fin false 125 (pos 3)) k) (pos 1000) (cond (lt k (fin true 125 (pos 3))) (negsuc 999) (to_signed 63 k))
+clamped_k k = cond (lt k (fin true 125 (pos 3))) (negsuc 999) (cond (lt (fin false 125 (pos 3)) k) (pos 1000) (to_signed 63 k))
 
 -- the source's ERR: the bound on the error of q.hi + q.lo, where `small` is false and where it is true
 unfoldable pub err_of : Bool → Float
@@ -128,10 +118,10 @@ err_of false = f64 0x3abb100000000000
 err_of true = f64 0x3a2d800000000000
 
 -- w of the rounding test: the pattern of q.hi, and where its last 28 bits are -1, 0 or 1, of q.hi + (q.lo + err), scaled
-unfoldable pub test_pattern : DoubleDouble → Bool → ℤ → ℕ
-test_pattern q small k =
+unfoldable pub test_pattern : DoubleDouble → Float → ℤ → ℕ
+test_pattern q err k =
     let w = to_bits binary64 q.hi in
-    cond (nat_le ((w + 1) % 2 ^ 64 % 2 ^ 28) 2) (scaled (to_bits binary64 (q.hi ⊕ (q.lo ⊕ err_of small))) k) w
+    cond (nat_le ((w + 1) % 2 ^ 64 % 2 ^ 28) 2) (scaled (to_bits binary64 (q.hi ⊕ (q.lo ⊕ err))) k) w
 
 -- whether w has 28 zeros at its end, so that the source's w.wrapping_shl(36) is 0, and q.lo was lost in v, the pattern of q.hi + q.lo
 unfoldable pub is_lost : DoubleDouble → ℕ → ℕ → Bool
@@ -148,8 +138,8 @@ rounded_to_odd q w =
     cond (is_lost q w v) (one_towards v q.lo) v
 
 -- The end of `compoundf_exp2_accurate`: q.hi + q.lo, rounded once, times 2^k
-unfoldable pub scaled_to_f32 : DoubleDouble → Bool → ℤ → Float
-scaled_to_f32 q small k = narrowed (f64 (scaled (rounded_to_odd q (test_pattern q small k)) k))
+unfoldable pub scaled_to_f32 : DoubleDouble → Float → ℤ → Float
+scaled_to_f32 q err k = narrowed (f64 (scaled (rounded_to_odd q (test_pattern q err k)) k))
 
 -- The middle of `compoundf_exp2_accurate`: 2^(v.hi + v.lo) by the power of index i and the polynomial at the rest
 unfoldable pub exp2_product : DoubleDouble → ℕ → DoubleDouble
@@ -167,7 +157,7 @@ unfoldable pub exp2_away : DoubleDouble → Float → Float
 exp2_away t k =
     let v = from_exact_add (t.hi ⊖ k) t.lo in
     let i = clamped_index v.hi in
-    scaled_to_f32 (exp2_product v i) (is_small k i t.hi) (clamped_k k)
+    scaled_to_f32 (exp2_product v i) (err_of (is_small k i t.hi)) (clamped_k k)
 
 -- "check easy cases h+l is tiny thus 2^(h+l) rounds to 1, 1- or 1+", for h = x_dd.hi
 unfoldable pub is_near_one : Float → Float → Bool

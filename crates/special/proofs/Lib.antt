@@ -2,3 +2,4 @@
 pub mod Classes
 pub mod Rule
 pub mod Ranks
+pub mod Tabled

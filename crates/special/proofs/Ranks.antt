@@ -4,8 +4,7 @@ use mathlib.Core.Path.{◌≡◌, refl, sym, ap, ap₂, ◌∙◌, subst}
 use mathlib.Core.Bool.{Bool, true, false, cond}
 use Prim.Native.Nat.{ℕ, zero, suc, ◌+◌, ◌-◌, ◌*◌, ◌/◌, ◌%◌, ◌^◌, ◌≤◌, ◌<◌}
 use native.Mathlib.Omega.{arith}
-use borrow.Author.Tests.{lt-ltb, le-ltb, ne_eqb}
-use lib.Dec.{eqb, ltb, lit≤}
+use Rattle.std.proofs.lemmas.Bool.Decides.{nat_tests}
 use lib.Ieee.{Float, nan, binary32, is_nan, lt, le, eq, of_bits}
 use Rattle.special.specs.Special.{is_zero, from_minus_one_to_zero, special_table, first_that_fits, special}
 use Rattle.special.specs.Rank.{rank}
@@ -14,23 +13,18 @@ use Rattle.special.proofs.Rule.{typical_x, typical_y, answer_x, answer_y, Kind, 
 use Rattle.floats.proofs.Laws.Compare.{Order, less, same, more, order}
 
 -- ---- the ranks
-cond_le : (b : Bool) (i j n : ℕ) → i ≤ n → j ≤ n → cond b i j ≤ n
-cond_le true i j n h k = h
-cond_le false i j n h k = k
-
 -- there are four
 pub four_ranks : (m limit : ℕ) → rank m limit ≤ 3
 unfolding rank
-four_ranks m limit =
-    cond_le (eqb m 0) 0 _ 3 (lit≤ tt) (cond_le (ltb m limit) 1 _ 3 (lit≤ tt) (cond_le (eqb m limit) 2 3 3 (lit≤ tt) (lit≤ tt)))
+four_ranks m limit = grind (arith, nat_tests)
 
 under : (m limit : ℕ) → 0 < m → m < limit → rank m limit ≡ 1
 unfolding rank
-under m limit h k = simp (ne_eqb m 0 (omega (arith, h)), lt-ltb m limit k)
+under m limit h k = grind (arith, nat_tests)
 
 over : (m limit : ℕ) → limit < m → rank m limit ≡ 3
 unfolding rank
-over m limit h = simp (ne_eqb m 0 (omega (arith, h)), le-ltb m limit (omega (arith, h)), ne_eqb m limit (omega (arith, h)))
+over m limit h = grind (arith, nat_tests)
 
 -- ---- the classes, for the sign's bit s and the magnitude m
 abbrev spot_x : ℕ → ℕ → ℕ

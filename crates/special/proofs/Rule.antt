@@ -3,7 +3,7 @@
 -- (`x_positive` and so on), and so is the route (`rule_of_patterns`). A row of the table fits exactly where the route is `rule` (`a_row_fits`), and
 -- on the other routes x and y are finite and not zero, and x is above -1 (`off_rule`). Assumes nothing.
 use mathlib.Core.Path.{◌≡◌, refl, sym, ap, ap₂, ◌∙◌, subst}
-use mathlib.Core.Bool.{Bool, true, false, not, cond, ◌&&◌, ◌||◌}
+use mathlib.Core.Bool.{Bool, true, false, cond, ◌&&◌, ◌||◌}
 use mathlib.Core.List.{List, [], ◌∷◌}
 use Prim.Native.Nat.{ℕ, zero, suc, ◌+◌, ◌-◌, ◌*◌, ◌%◌, ◌^◌, ◌≤◌, ◌<◌}
 use native.Mathlib.Nat.{zero-mul}
@@ -11,6 +11,9 @@ use native.Mathlib.Omega.{arith}
 use borrow.Author.Tests.{lt-ltb, le-ltb, le-leb, lt-leb, eq-eqb, ne_eqb}
 use lib.Dec.{T, leb, ltb, eqb, lt→ltb}
 use lib.IntN.{ℤ, pos, negsuc}
+use Rattle.std.proofs.Math.Bool.{or_assoc}
+use Rattle.std.proofs.lemmas.Bool.Decides.{nat_tests}
+pub use Rattle.floats.proofs.Laws.Sums.{finite_number}
 use lib.Ieee.{Float, nan, inf, fin, binary32, up, down, below, level, lt, le, eq, is_nan, fits, to_bits, of_bits}
 use lib.Ieee.Bits.{is_false}
 use lib.Ieee.Fits.{down_pos}
@@ -202,8 +205,7 @@ x_positive n h k =
     sym (x_by_key n (omega arith) (omega arith) ∙ ap class_of_key_x (key_clear binary32 n (omega arith)) ∙ go (2 ^ 31 + n) (omega arith) (omega arith))
   where
     go : (k : ℕ) → 0x8000_0000 < k → k < 0xff80_0000 → class_of_key_x k ≡ 5
-    go k h g =
-        rw (le-ltb k 0x4080_0000 (omega arith), ne_eqb k 0x4080_0000 (omega arith), le-ltb k 0x8000_0000 (omega arith), ne_eqb k 0x8000_0000 (omega arith), ne_eqb k 0xff80_0000 (omega arith)) refl
+    go k h g = grind (arith, nat_tests)
 
 -- between -1 and 0
 pub x_to_zero : (n : ℕ) → 0x8000_0000 < n → n < 0xbf80_0000 → 3 ≡ class_of_x (of_bits binary32 n)
@@ -211,7 +213,7 @@ x_to_zero n h k =
     sym (x_by_key n (omega arith) (omega arith) ∙ ap class_of_key_x (key_set binary32 n (omega arith)) ∙ go (2 ^ 32 - n) (omega arith) (omega arith))
   where
     go : (k : ℕ) → 0x4080_0000 < k → k < 0x8000_0000 → class_of_key_x k ≡ 3
-    go k h g = rw (le-ltb k 0x4080_0000 (omega arith), ne_eqb k 0x4080_0000 (omega arith), lt-ltb k 0x8000_0000 (omega arith)) refl
+    go k h g = grind (arith, nat_tests)
 
 -- below -1 or -infinity
 pub x_below : (n : ℕ) → 0xbf80_0000 < n → n ≤ 0xff80_0000 → 1 ≡ class_of_x (of_bits binary32 n)
@@ -219,7 +221,7 @@ x_below n h k =
     sym (x_by_key n (omega arith) (omega arith) ∙ ap class_of_key_x (key_set binary32 n (omega arith)) ∙ go (2 ^ 32 - n) (omega arith))
   where
     go : (k : ℕ) → k < 0x4080_0000 → class_of_key_x k ≡ 1
-    go k h = rw (lt-ltb k 0x4080_0000 h) refl
+    go k h = grind (arith, nat_tests)
 
 -- above 0 and finite
 pub y_positive : (n : ℕ) → 0 < n → n < 0x7f80_0000 → 4 ≡ class_of_y (of_bits binary32 n)
@@ -227,7 +229,7 @@ y_positive n h k =
     sym (y_by_key n (omega arith) (omega arith) ∙ ap class_of_key_y (key_clear binary32 n (omega arith)) ∙ go (2 ^ 31 + n) (omega arith) (omega arith))
   where
     go : (k : ℕ) → 0x8000_0000 < k → k < 0xff80_0000 → class_of_key_y k ≡ 4
-    go k h g = rw (ne_eqb k 0x0080_0000 (omega arith), le-ltb k 0x8000_0000 (omega arith), ne_eqb k 0x8000_0000 (omega arith), ne_eqb k 0xff80_0000 (omega arith)) refl
+    go k h g = grind (arith, nat_tests)
 
 -- below 0 and finite
 pub y_negative : (n : ℕ) → 0x8000_0000 < n → n < 0xff80_0000 → 2 ≡ class_of_y (of_bits binary32 n)
@@ -235,7 +237,7 @@ y_negative n h k =
     sym (y_by_key n (omega arith) (omega arith) ∙ ap class_of_key_y (key_set binary32 n (omega arith)) ∙ go (2 ^ 32 - n) (omega arith) (omega arith))
   where
     go : (k : ℕ) → 0x0080_0000 < k → k < 0x8000_0000 → class_of_key_y k ≡ 2
-    go k h g = rw (ne_eqb k 0x0080_0000 (omega arith), lt-ltb k 0x8000_0000 g) refl
+    go k h g = grind (arith, nat_tests)
 
 -- a NaN
 pub x_nan : (n : ℕ) → 0x7f80_0000 < n % 2 ^ 31 → 0 ≡ class_of_x (of_bits binary32 n)
@@ -274,10 +276,10 @@ abbrev end_bits : ℕ → Bool
 end_bits n = eqb (n % 2 ^ 31) 0 || leb 0x7f80_0000 (n % 2 ^ 31)
 
 inner : (n : ℕ) → 0 < n % 2 ^ 31 → n % 2 ^ 31 < 0x7f80_0000 → end_bits n ≡ false
-inner n h k = simp (ne_eqb (n % 2 ^ 31) 0 (omega arith), lt-leb 0x7f80_0000 (n % 2 ^ 31) k)
+inner n h k = grind (arith, nat_tests)
 
 over : (n : ℕ) → 0x7f80_0000 < n % 2 ^ 31 → end_bits n ≡ true
-over n h = simp (ne_eqb (n % 2 ^ 31) 0 (omega arith), le-leb 0x7f80_0000 (n % 2 ^ 31) (omega arith))
+over n h = grind (arith, nat_tests)
 
 -- the kinds of patterns: a zero's, an infinity's, a finite value's with either sign, a NaN's
 pub data Kind (n : ℕ) : Type 0 where
@@ -341,10 +343,6 @@ rule_bits n h = go (kind n h) (order n 0xbf80_0000)
     go (no_number a) o =
         ap (λ (z : Bool). leb 0xbf80_0000 n || z) (over n a) ∙ or_true (leb 0xbf80_0000 n) ∙ sym (ap rule_x (nan_of_above binary32 n a))
 
-or_assoc : (a b c : Bool) → ((a || b) || c) ≡ (a || (b || c))
-or_assoc true b c = refl
-or_assoc false b c = refl
-
 -- the route's test, as the code has it
 pub rule_of_patterns : (m n : ℕ) → m < 2 ^ 32 → n < 2 ^ 32
     → (leb 0xbf80_0000 m || eqb (m % 2 ^ 31) 0 || leb 0x7f80_0000 (m % 2 ^ 31) || eqb (n % 2 ^ 31) 0 || leb 0x7f80_0000 (n % 2 ^ 31)) ≡ is_rule (of_bits binary32 m) (of_bits binary32 n)
@@ -383,13 +381,6 @@ a_row_fits x y =
     same_rule x x' y y' (like_x x) (like_y y) ∙ typical_agrees (class_of_x x) (class_of_y y) ∙ ap any_row_fits (sym (same_table x x' y y' (like_x x) (like_y y)))
 
 -- ---- a pair that takes another route
--- a finite value is no NaN
-pub finite_number : (x : Float) → T (finite x) → T (not (is_nan x))
-unfolding is_nan
-finite_number nan t = absurd t
-finite_number (inf s) t = tt
-finite_number (fin s m e) t = tt
-
 -- both are finite and not zero, and x is above -1
 pub record OffRule (x y : Float) : Type 0 where
   pub x_finite : T (finite x)
@@ -398,16 +389,11 @@ pub record OffRule (x y : Float) : Type 0 where
   pub y_not_zero : eq y Special.zero ≡ false
   pub x_above : T (lt minus_one x)
 
-false_is_not_true : false ≡ true → ⊥
-false_is_not_true e = subst T (sym e) tt
-
 or_left : (a b : Bool) → (a || b) ≡ false → a ≡ false
-or_left true b e = e
-or_left false b e = refl
+or_left a b e = grind arith
 
 or_right : (a b : Bool) → (a || b) ≡ false → b ≡ false
-or_right true b e = absurd (subst T e tt)
-or_right false b e = e
+or_right a b e = grind arith
 
 finite_of : (x : Float) → is_special x ≡ false → T (finite x)
 unfolding is_special is_zero eq is_nan
@@ -423,12 +409,7 @@ not_zero_of x e =
     (or_left (eq x Special.zero || eq x +infinity) (eq x -infinity) (or_left (eq x Special.zero || eq x +infinity || eq x -infinity) (is_nan x) e))
 
 over_one : (a b : ℕ) → (ltb b a || (eqb a b && true)) ≡ false → T (ltb a b)
-over_one a b e = go (order a b)
-  where
-    go : Order a b → T (ltb a b)
-    go (less h) = lt→ltb a b h
-    go (same h) = absurd (false_is_not_true (sym (or_right (ltb b a) (eqb a b && true) e) ∙ ap (λ (z : Bool). z && true) (eq-eqb a b h)))
-    go (more h) = absurd (false_is_not_true (sym (or_left (ltb b a) (eqb a b && true) e) ∙ lt-ltb b a h))
+over_one a b e = grind (arith, nat_tests)
 
 above_of : (x : Float) → T (finite x) → le x minus_one ≡ false → T (lt minus_one x)
 unfolding le lt eq

@@ -2,26 +2,35 @@
 // for them that `f_compoundf` makes.
 #![tactic(auto)]
 
-ghost use Rattle.std.specs.Prelude.{◌≡◌, ◌<◌};
+ghost use Rattle.std.specs.Prelude.{◌≡◌, ◌<◌, ◌≤◌};
 ghost use Rattle.std.specs.Float.{binary32};
 ghost use Rattle.std.specs.Float.Ieee.{of_bits};
 ghost use Rattle.special.specs.Special.{is_rule, special};
 ghost use Rattle.special.specs.Rank as spec;
 
+pub mod operands;
+
 // Where a magnitude stands, by its pattern m: 0 for a zero, 1 below the limit, 2 at it, 3 above it. The
 // tests are counted, since the processor could not foresee a branch on them.
+#[tactic(auto, unfolding(crate::specs::Rank::rank))]
 fn rank(m: u32, limit: u32) -> u32
     requires { 0 < limit }
-    ensures { result ≡ spec.rank m limit }
+    ensures value { result ≡ spec.rank m limit }
+    ensures bound { result ≤ 3 }
 {
     (m > 0) as u32 + (m >= limit) as u32 + (m > limit) as u32
 }
+
+const NAN: f32 = f32::NAN;
+
+const INF: f32 = f32::INFINITY;
 
 // The answer of the special table, for the patterns of x and y. There are eight classes of x, by the
 // sign and the rank: +0, above 0 and finite, +infinity, NaN; -0, between -1 and 0, -1, below -1 or NaN.
 // For each of them the arms have the eight classes of y: +0, above 0 and finite, +infinity, NaN; -0,
 // below 0 and finite, -infinity, NaN. Where no row of the table fits it is a NaN, but `f_compoundf`
-// does not ask then. An arm for each pair makes it one lookup.
+// does not ask then. The classes are numbers from ranges of patterns, and no enum: an arm for each pair
+// makes it one lookup.
 pub fn as_compoundf_special(nx: u32, ny: u32) -> f32
     ensures { result ≡ special (of_bits binary32 nx) (of_bits binary32 ny) }
 {
@@ -33,72 +42,73 @@ pub fn as_compoundf_special(nx: u32, ny: u32) -> f32
         0 => 1.0,
         1 => 1.0,
         2 => 1.0,
-        3 => 0.0 / 0.0,
+        3 => NAN,
         4 => 1.0,
         5 => 1.0,
         6 => 1.0,
-        7 => 0.0 / 0.0,
+        7 => NAN,
         8 => 1.0,
-        9 => 0.0 / 0.0,
-        10 => 1.0 / 0.0,
-        11 => 0.0 / 0.0,
+        9 => NAN,
+        10 => INF,
+        11 => NAN,
         12 => 1.0,
-        13 => 0.0 / 0.0,
+        13 => NAN,
         14 => 0.0,
-        15 => 0.0 / 0.0,
+        15 => NAN,
         16 => 1.0,
-        17 => 1.0 / 0.0,
-        18 => 1.0 / 0.0,
-        19 => 0.0 / 0.0,
+        17 => INF,
+        18 => INF,
+        19 => NAN,
         20 => 1.0,
         21 => 0.0,
         22 => 0.0,
-        23 => 0.0 / 0.0,
-        24 => 0.0 / 0.0,
-        25 => 0.0 / 0.0,
-        26 => 0.0 / 0.0,
-        27 => 0.0 / 0.0,
-        28 => 0.0 / 0.0,
-        29 => 0.0 / 0.0,
-        30 => 0.0 / 0.0,
-        31 => 0.0 / 0.0,
+        23 => NAN,
+        24 => NAN,
+        25 => NAN,
+        26 => NAN,
+        27 => NAN,
+        28 => NAN,
+        29 => NAN,
+        30 => NAN,
+        31 => NAN,
         32 => 1.0,
         33 => 1.0,
         34 => 1.0,
-        35 => 0.0 / 0.0,
+        35 => NAN,
         36 => 1.0,
         37 => 1.0,
         38 => 1.0,
-        39 => 0.0 / 0.0,
+        39 => NAN,
         40 => 1.0,
-        41 => 0.0 / 0.0,
+        41 => NAN,
         42 => 0.0,
-        43 => 0.0 / 0.0,
+        43 => NAN,
         44 => 1.0,
-        45 => 0.0 / 0.0,
-        46 => 1.0 / 0.0,
-        47 => 0.0 / 0.0,
+        45 => NAN,
+        46 => INF,
+        47 => NAN,
         48 => 1.0,
         49 => 0.0,
         50 => 0.0,
-        51 => 0.0 / 0.0,
+        51 => NAN,
         52 => 1.0,
-        53 => 1.0 / 0.0,
-        54 => 1.0 / 0.0,
-        55 => 0.0 / 0.0,
-        56 => 0.0 / 0.0,
-        57 => 0.0 / 0.0,
-        58 => 0.0 / 0.0,
-        59 => 0.0 / 0.0,
-        60 => 0.0 / 0.0,
-        61 => 0.0 / 0.0,
-        62 => 0.0 / 0.0,
-        _ => 0.0 / 0.0,
+        53 => INF,
+        54 => INF,
+        55 => NAN,
+        56 => NAN,
+        57 => NAN,
+        58 => NAN,
+        59 => NAN,
+        60 => NAN,
+        61 => NAN,
+        62 => NAN,
+        _ => NAN,
     }
 }
 
 // Whether x and y take the route `rule`, as `f_compoundf` has it: x <= -1 or a negative NaN, or one
 // of the two a zero, an infinity or a NaN.
+#[tactic(auto, using(crate::proofs::Rule::rule_of_patterns))]
 pub fn is_rule(nx: u32, ny: u32) -> bool
     ensures { result ≡ is_rule (of_bits binary32 nx) (of_bits binary32 ny) }
 {

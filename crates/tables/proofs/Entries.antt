@@ -5,7 +5,7 @@ use mathlib.Core.Path.{◌≡◌, refl, sym, ap, ◌∙◌, subst}
 use mathlib.Core.Logic.{inl, inr}
 use mathlib.Core.Bool.{Bool, true, false, not, ◌&&◌, beq}
 use mathlib.Core.List.{List}
-use Prim.Native.Nat.{ℕ, zero, suc, ◌-◌, ◌*◌, ◌^◌, ◌<◌}
+use Prim.Native.Nat.{ℕ, zero, suc, ◌*◌, ◌<◌}
 use native.Mathlib.Nat.{eq-or-lt_of_le, le_of_suc-le-suc, not-suc-le-zero}
 use lib.Dec.{T, eqb, eqb→eq}
 use lib.ListN.{get_or}
@@ -13,7 +13,13 @@ use lib.Ieee.{Float, nan, inf, fin, binary64, up, down, fits, nan_bits, to_bits,
 use lib.Ieee.Bits.{of_bits-to_bits}
 use lib.Ieee.Exact.{HasValue}
 use lib.Ieee.Fits.{and_l, and_r}
-use Rattle.tables.specs.Tables.{entry, log2p1_scale, compoundf_exp2_t}
+use Rattle.std.specs.Prelude.{IsTrue, length}
+use Rattle.std.specs.List.{list_all}
+use Rattle.std.proofs.lemmas.Bool.{and_parts, leb-true}
+use Rattle.std.proofs.lemmas.Float.{not_nan_f64_bits}
+use Rattle.std.proofs.lemmas.List.Elements.{All-get_or}
+use Rattle.std.proofs.lemmas.List.Sums.{AllPass-from_list_all}
+use Rattle.tables.specs.Tables.{entry, is_number, is_pair, log2p1_scale, compoundf_exp2_t}
 use Rattle.tables.specs.Rules.{scale_value, IsExp2T, Rules}
 
 -- ---- a test that passes at every number below n
@@ -31,11 +37,6 @@ carried (suc n) test t i h =
     ]
 
 -- ---- LOG2P1_SCALE
--- its patterns: the exponent's field goes down from 1052, and the digits are 0
-pub scale_pattern : (i : ℕ) → i < 158 → get_or log2p1_scale i 0 ≡ (1052 - i) * 2 ^ 52
-unfolding log2p1_scale
-scale_pattern i h = eqb→eq (get_or log2p1_scale i 0) ((1052 - i) * 2 ^ 52) (carried 158 (λ (k : ℕ). eqb (get_or log2p1_scale k 0) ((1052 - k) * 2 ^ 52)) tt i h)
-
 -- its values: 2^(29 - i)
 pub scale_rule : (i : ℕ) → i < 158 → entry log2p1_scale i ≡ scale_value i
 unfolding entry log2p1_scale fits to_bits
@@ -77,14 +78,13 @@ pub rules : Rules
 rules = record { scale = scale_rule; exp2_t = exp2t_rule }
 
 -- ---- all tables
--- no entry is a NaN's pattern, so that each is read as it stands
-pub number_entry : (table : List ℕ) (n : ℕ) → T (passes_below n (λ (k : ℕ). not (nan_bits binary64 (get_or table k 0)))) → (i v : ℕ) → i < n → v ≡ get_or table i 0
-    → T (not (nan_bits binary64 v))
-number_entry table n t i v h e =
-    subst (λ (u : ℕ). T (not (nan_bits binary64 u))) (sym e) (carried n (λ (k : ℕ). not (nan_bits binary64 (get_or table k 0))) t i h)
+-- no pattern is a NaN's, so that each is read as it stands
+pub number_at : (table : List ℕ) (i : ℕ) → IsTrue (list_all is_number table) → i < length table → T (not (nan_bits binary64 (get_or table i 0)))
+number_at table i t h = not_nan_f64_bits _ (leb-true _ _ (All-get_or (λ p. IsTrue (is_number p)) table i 0 h (AllPass-from_list_all is_number table t)))
 
 -- nor is either half of a pair
-pub number_pair : (half : (ℕ × ℕ) → ℕ) (table : List (ℕ × ℕ)) (n : ℕ) → T (passes_below n (λ (k : ℕ). not (nan_bits binary64 (half (get_or table k (0, 0)))))) → (i v : ℕ) (b : ℕ × ℕ) → i < n
-    → v ≡ half b → b ≡ get_or table i (0, 0) → T (not (nan_bits binary64 v))
-number_pair half table n t i v b h d e =
-    subst (λ (u : ℕ). T (not (nan_bits binary64 u))) (sym (d ∙ ap half e)) (carried n (λ (k : ℕ). not (nan_bits binary64 (half (get_or table k (0, 0))))) t i h)
+pub pair_at : (table : List (ℕ × ℕ)) (i : ℕ) → IsTrue (list_all is_pair table) → i < length table
+    → T (not (nan_bits binary64 (get_or table i (0, 0)).0)) × T (not (nan_bits binary64 (get_or table i (0, 0)).1))
+pair_at table i t h =
+    let b = and_parts _ _ (All-get_or (λ p. IsTrue (is_pair p)) table i (0, 0) h (AllPass-from_list_all is_pair table t)) in
+    (not_nan_f64_bits _ (leb-true _ _ b.0), not_nan_f64_bits _ (leb-true _ _ b.1))

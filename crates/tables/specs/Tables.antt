@@ -1,7 +1,7 @@
 -- Document 01, "Table path": the tables, as patterns of f64, lowest index first. LOG2P1_SCALE and COMPOUNDF_EXP2_T have a rule in the
 -- document (specs/Rules.antt); the other seven are the source's numbers. A pair is (lo, hi), as in the source. Past its end a table reads as
 -- 0, which only makes `entry` total: each function of the crate asks for an index inside its table, so none gives that 0.
-use Rattle.std.specs.Prelude.{ℕ, List, [], ◌∷◌, get_or, Float}
+use Rattle.std.specs.Prelude.{ℕ, ◌%◌, List, [], ◌∷◌, get_or, Float, Bool, ◌&&◌, leb}
 use Rattle.floats.specs.Operations.{f64}
 use Rattle.double_double.specs.declared.DoubleDouble.{DoubleDouble}
 
@@ -16,6 +16,14 @@ from_bit_pair b = record { lo = f64 b.0; hi = f64 b.1 }
 -- entry i of a table of pairs, as a double-double
 unfoldable pub pair_entry : List (ℕ × ℕ) → ℕ → DoubleDouble
 pair_entry table i = from_bit_pair (get_or table i (0, 0))
+
+-- the pattern of an f64 is no NaN's
+abbrev pub is_number : ℕ → Bool
+is_number p = leb (p % 0x8000000000000000) 0x7ff0000000000000
+
+-- nor is either half of a pair
+abbrev pub is_pair : (ℕ × ℕ) → Bool
+is_pair b = is_number b.0 && is_number b.1
 
 -- LOG2P1_COMPOUNDF_INV: entry i is near 1/t for t from 1/2 + (i + 13)/64 to 1/2 + (i + 14)/64
 unfoldable pub log2p1_compoundf_inv : List ℕ

@@ -43,8 +43,3 @@ value_from base n (b ∷ l) = value_from base (n * base + digit_value b) l
 -- the value of digits, the highest first
 unfoldable pub value : ℕ → List ℕ → ℕ
 value base l = value_from base 0 l
-
--- the number of digits in a base, the lowest first; only contracts of functions inside the crate cite it
-unfoldable pub lowest_first : ℕ → List ℕ → ℕ
-lowest_first base [] = 0
-lowest_first base (b ∷ l) = lowest_first base l * base + b

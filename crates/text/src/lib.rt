@@ -6,6 +6,6 @@ mod digits;
 mod hex;
 mod write;
 
-pub use digits::{places, put_digits};
-pub use hex::{all_hex, hex_number};
-pub use write::{put_bytes, put_number};
+pub use digits::places;
+pub use hex::from_hex;
+pub use write::{Decimal, Hex, Text, put_bytes};

@@ -1,31 +1,118 @@
-// Writing text at a place of a list of bytes.
-ghost use Rattle.std.specs.Prelude.{◌≡◌, ◌++◌, ◌+◌, ◌≤◌, length};
-ghost use Rattle.text.specs.Bytes.{put};
-ghost use Rattle.text.specs.Digits.{decimal};
+// Text put at a place of a list of bytes.
+ghost use Rattle.std.specs.Prelude.{◌≡◌, ◌++◌, ◌+◌, ◌≤◌, ℕ, List, [], length};
+ghost use Rattle.std.specs.List.{flat_map};
+ghost use Rattle.text.specs.Bytes.{put, if_some};
+ghost use Rattle.text.specs.Digits.{decimal, hex};
 
-use crate::digits::{places, put_digits};
+use crate::digits::{fill_digits, places};
+
+// A text that can be put at a place of a list of bytes. A tuple is its parts, one after another.
+pub trait Text {
+    // Its bytes.
+    ghost bytes: { Self → List ℕ };
+
+    // Puts it at the place `at`, and answers the place after it.
+    fn put(self, out: &mut [u8], at: usize) -> usize
+        requires { at + length (bytes self) ≤ length out.old }
+        ensures value { result ≡ at + length (bytes self) }
+        ensures out_after { out.new ≡ put out.old at (bytes self) };
+}
+
+impl Text for &str {
+    ghost bytes = { λ s. s.now };
+
+    #[tactic(auto, using(crate::proofs::Put::put_part))]
+    fn put(self, out: &mut [u8], at: usize) -> usize {
+        let end = at + self.len();
+        out[at..end].copy_from_slice(self.as_bytes());
+        end
+    }
+}
+
+// A number, in decimal.
+#[derive(Clone, Copy)]
+pub struct Decimal(pub u32);
+
+impl Text for Decimal {
+    ghost bytes = { λ d. decimal d.0 };
+
+    #[tactic(auto, using(crate::proofs::Put::decimal_put, crate::proofs::Numerals::length_decimal))]
+    fn put(self, out: &mut [u8], at: usize) -> usize {
+        let end = at + places(self.0);
+        fill_digits(self.0, 10, &mut out[at..end]);
+        end
+    }
+}
+
+// A pattern, as eight hexadecimal digits.
+#[derive(Clone, Copy)]
+pub struct Hex(pub u32);
+
+impl Text for Hex {
+    ghost bytes = { λ h. hex h.0 };
+
+    #[tactic(auto, using(crate::proofs::Put::hex_put, crate::proofs::Numerals::length_hex))]
+    fn put(self, out: &mut [u8], at: usize) -> usize {
+        let end = at + 8;
+        fill_digits(self.0, 16, &mut out[at..end]);
+        end
+    }
+}
+
+impl<A: Text, B: Text> Text for (A, B) {
+    ghost bytes = { λ t. A.bytes t.0 ++ B.bytes t.1 };
+
+    #[tactic(auto, using(crate::proofs::Put::pair_put))]
+    fn put(self, out: &mut [u8], at: usize) -> usize {
+        let (a, b) = self;
+        let middle = a.put(out, at);
+        b.put(out, middle)
+    }
+}
+
+impl<A: Text, B: Text, C: Text> Text for (A, B, C) {
+    ghost bytes = { λ t. A.bytes t.0 ++ B.bytes t.1 ++ C.bytes t.2 };
+
+    fn put(self, out: &mut [u8], at: usize) -> usize {
+        let (a, b, c) = self;
+        ((a, b), c).put(out, at)
+    }
+}
+
+// Texts one after another.
+impl<T: Text + Copy, const N: usize> Text for [T; N] {
+    ghost bytes = { flat_map T.bytes };
+
+    fn put(self, out: &mut [u8], at: usize) -> usize {
+        let mut end = at;
+        for text in self {
+            end = text.put(out, end);
+        }
+        end
+    }
+}
+
+// Nothing, where there is none.
+impl<T: Text> Text for Option<T> {
+    ghost bytes = { if_some T.bytes };
+
+    #[tactic(auto, using(crate::proofs::Put::put_nothing), unfolding(crate::specs::Bytes::if_some))]
+    fn put(self, out: &mut [u8], at: usize) -> usize {
+        match self {
+            Some(part) => part.put(out, at),
+            None => at,
+        }
+    }
+}
 
 // Puts text at the place `at`, and answers the place after it.
+#[tactic(auto, using(crate::proofs::Put::put_part))]
 pub fn put_bytes(text: &[u8], out: &mut [u8], at: usize) -> usize
     requires { at + length text.now ≤ length out.old }
     ensures value { result ≡ at + length text.now }
     ensures out_after { out.new ≡ put out.old at text.now }
 {
-    let mut i = 0;
-    while i < text.len() {
-        out[at + i] = text[i];
-        i += 1;
-    }
-    at + i
-}
-
-// Puts text and a number in decimal after it at the place `at`, and answers the place after them.
-pub fn put_number(text: &[u8], n: u32, out: &mut [u8], at: usize) -> usize
-    requires { at + length (text.now ++ decimal n) ≤ length out.old }
-    ensures value { result ≡ at + length (text.now ++ decimal n) }
-    ensures out_after { out.new ≡ put out.old at (text.now ++ decimal n) }
-{
-    let digits = put_bytes(text, out, at);
-    let k = places(n);
-    put_digits(n, 10, k, out, digits)
+    let end = at + text.len();
+    out[at..end].copy_from_slice(text);
+    end
 }

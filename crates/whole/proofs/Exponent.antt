@@ -1,7 +1,8 @@
 -- The route `whole` on patterns: a size is compared as the pattern without its sign is, so the route's test is one of patterns
 -- (`whole_of_patterns`). And where it passes, |y| can be cast to a u32 (`castable_exponent`). Assumes nothing.
-use Rattle.std.proofs.Common.{◌≡◌, ℕ, ◌+◌, ◌*◌, ◌%◌, ◌^◌, ◌<◌, ◌≤◌, Bool, true, false, not, ◌&&◌, T, ltb, leb, pos, negsuc, sym, refl, ap, ◌∙◌, subst, ap₂, arith, lit<, lit≤, le→leb, leb→le, le-ltb}
+use Rattle.std.proofs.Common.{◌≡◌, ℕ, ◌+◌, ◌*◌, ◌%◌, ◌^◌, ◌<◌, ◌≤◌, Bool, true, false, not, ◌&&◌, T, ltb, leb, pos, negsuc, sym, refl, ap, ◌∙◌, subst, ap₂, arith, lit<, lit≤, le-ltb}
 use borrow.Author.Tests.{lt-leb}
+use Rattle.std.proofs.lemmas.Bool.Decides.{nat_tests}
 use lib.Ieee.{Float, nan, inf, fin, binary32, up, down, lt, le, eq, in_unsigned, is_nan, fits, to_bits, of_bits}
 use lib.Ieee.Bits.{of_bits-fits, of_bits-to_bits, to_bits-lt, to_bits-of_bits}
 use lib.Ieee.Fits.{and_l, and_r}
@@ -12,7 +13,7 @@ use Rattle.floats.proofs.Laws.Sums.{SizeAtMost}
 use Rattle.floats.proofs.Laws.Cast.{unsigned_cast}
 use Rattle.whole.specs.Whole.{is_whole, is_tiny}
 use lib.Ieee.Bits.{is_true}
-use Rattle.floats.proofs.Laws.Compare.{Order, less, same, more, order, at_most, key, key_clear, same_truth, ltb_same, number_of_bits, lt_of_bits, le_of_bits}
+use Rattle.floats.proofs.Laws.Compare.{Order, less, same, more, order, at_most, key, key_clear, number_of_bits, lt_of_bits, le_of_bits}
 
 -- the size of a number is that of the pattern without its sign
 size_of_bits : (n : ℕ) → n < 2 ^ 32 → n % 2 ^ 31 ≤ 0x7f80_0000 → absolute (of_bits binary32 n) ≡ of_bits binary32 (n % 2 ^ 31)
@@ -52,13 +53,10 @@ module _
         go (more k) = number (omega (arith, k))
 
 shift_ltb : (a b : ℕ) → ltb a b ≡ ltb (2 ^ 31 + a) (2 ^ 31 + b)
-shift_ltb a b = ltb_same a b (2 ^ 31 + a) (2 ^ 31 + b) (λ k. omega (arith, k)) (λ k. omega (arith, k))
+shift_ltb a b = grind (arith, nat_tests)
 
 shift_leb : (a b : ℕ) → leb a b ≡ leb (2 ^ 31 + a) (2 ^ 31 + b)
-shift_leb a b =
-    same_truth (leb a b) (leb (2 ^ 31 + a) (2 ^ 31 + b))
-    (λ k. le→leb (2 ^ 31 + a) (2 ^ 31 + b) (omega (arith, leb→le a b k)))
-    (λ k. le→leb a b (omega (arith, leb→le (2 ^ 31 + a) (2 ^ 31 + b) k)))
+shift_leb a b = grind (arith, nat_tests)
 
 -- |x| < c and |x| <= c, by the patterns
 size_lt : (n : ℕ) → n < 2 ^ 32 → (c : Float) (b : ℕ) → to_bits binary32 c ≡ b → b ≤ 0x7f80_0000 → T (fits binary32 c) → T (not (is_nan c))

@@ -143,12 +143,10 @@ either_size : (x : Float) → T (not (is_nan x)) → Large x ⊎ Small x
 unfolding is_nan
 either_size nan h = absurd h
 either_size (inf s) h = inl tt
-either_size (fin s m e) h = go (order (m * up e) (down e))
+either_size (fin s m e) h = either (m * up e) (down e)
   where
-    go : Order (m * up e) (down e) → (down e ≤ m * up e) ⊎ (m * up e ≤ down e)
-    go (less k) = inr (omega (arith, k))
-    go (same k) = inr (omega (arith, k))
-    go (more k) = inl (omega (arith, k))
+    either : (a c : ℕ) → (c ≤ a) ⊎ (a ≤ c)
+    either a c = grind arith
 
 pub power_number : (n : ℕ) (s : Float) → T (not (is_nan s)) → T (not (is_nan (power s n)))
 power_number n s h = go (either_size s h)

@@ -10,11 +10,16 @@ use Rattle.floats.proofs.Laws.Magnitude.{inf_under_top}
 use Rattle.floats.proofs.Laws.Narrow.{narrowed_fits}
 use Rattle.floats.proofs.Laws.Order.{clear, round_clear}
 use Rattle.floats.proofs.Laws.Units.{bits_under_top}
+use Rattle.compound.specs.Answer.{Outcome}
 use Rattle.special.specs.Special.{zero, one, +infinity}
 
 pub record Plain (r : Float) : Type 0 where
   pub in_f32 : T (fits binary32 r)
   pub is_clear : T (clear r)
+
+-- an outcome with such a value
+abbrev pub PlainValue : Outcome → Type 0
+PlainValue o = Plain o.value
 
 -- a NaN where the test is true, and such a value where it is false
 abbrev pub NanOrPlain : Bool → Float → Type 0

@@ -2,7 +2,7 @@
 -- test, so it is no NaN and not below a constant above 0. Of the route `slow` it is a hypothesis (`SlowClear`), which Slow/SlowSign.antt proves.
 -- Assumes nothing.
 use mathlib.Core.Path.{◌≡◌, refl, sym, ap, ◌∙◌}
-use mathlib.Core.Bool.{Bool, true, false, not, cond, true≢false}
+use mathlib.Core.Bool.{true, false, not, true≢false}
 use Prim.Native.Nat.{ℕ, ◌+◌, ◌*◌, ◌%◌, ◌^◌, ◌<◌}
 use native.Mathlib.Omega.{arith}
 use borrow.Author.Tests.{lt-ltb}
@@ -10,39 +10,36 @@ use lib.Dec.{T, leb, ltb}
 use lib.IntN.{pos, negsuc}
 use lib.Ieee.{Float, nan, inf, fin, binary32, binary64, up, down, add, sub, lt, le, eq, ne, fits, to_bits, of_bits}
 use lib.Ieee.Fits.{down_pos, add-fits}
+use Rattle.std.proofs.Common.{Option}
+use Rattle.std.proofs.lemmas.Bool.{cond_both, not-false}
+use Rattle.filter.specs.Right.{Inside}
 use Rattle.floats.specs.Operations.{◌⊕◌, ◌⊖◌, ◌⊗◌, f64}
 use Rattle.floats.specs.Narrowing.{narrowed, nearest_whole}
 use Rattle.floats.proofs.Laws.Narrow.{narrowed_fits}
 use Rattle.floats.proofs.Laws.Order.{clear}
 use Rattle.double_double.specs.declared.DoubleDouble.{DoubleDouble}
-use Rattle.double_double.specs.DoubleDouble.{quick_mult_f64}
-use Rattle.fast_path.specs.declared.Exp2.TheVariants.{Rounded, Failed}
-use Rattle.compound.specs.Answer.{edge}
 use Rattle.special.specs.Special as Special
 use Rattle.fast_path.specs.Fast.{compoundf_log2p1_fast, rounding_test, exp2_fast}
-use Rattle.slow_path.specs.Slow.{compoundf_log2p1_accurate, is_near_one, scaled_to_f32, exp2_away, exp2_accurate, compoundf_accurate}
-use Rattle.compound.specs.Route.{Tabled, decided, from_logarithm, table_path}
-use Rattle.answers.proofs.Signs.Plain.{Plain, plain_zero, plain_one, plain_infinity, plain_narrowed, either}
+use Rattle.slow_path.specs.Slow.{is_near_one, scaled_to_f32, exp2_away, exp2_accurate, compoundf_accurate}
+use Rattle.special.specs.Operands.{Tabled}
+use Rattle.compound.specs.Route.{decided, from_logarithm, table_path}
+use Rattle.answers.proofs.Signs.Plain.{Plain, PlainValue, plain_zero, plain_one, plain_infinity, plain_narrowed}
 
 -- what the slow path owes: its value has a clear sign where the tests of the route `edge` fail
 abbrev pub SlowClear : Type 0
-SlowClear =
-    (x y : Float) → Tabled x y
-    → (let t = compoundf_log2p1_fast x ⊗ y in
-    le t (fin true 75 (pos 1)) ≡ false → lt t (fin false 1 (pos 7)) ≡ true → leb (to_bits binary64 t * 2 % 2 ^ 64) 0x3e6715476ba97f14 ≡ false → T (clear (compoundf_accurate x y)))
+SlowClear = (x y : Float) → Tabled x y → Inside (compoundf_log2p1_fast x ⊗ y) → T (clear (compoundf_accurate x y))
 
 -- ---- the route `slow`: its value is an f32
-exp2_fits : (t : DoubleDouble) → T (fits binary32 (exp2_accurate t))
-unfolding exp2_accurate exp2_away scaled_to_f32
-exp2_fits t =
-    let k = nearest_whole t.hi in
-    either (λ (r : Float). T (fits binary32 r)) (is_near_one k t.hi) (narrowed (Special.one ⊕ t.hi ⊗ f64 0x3fe0000000000000)) (exp2_away t k) (narrowed_fits _) (narrowed_fits _)
+abbrev InF32 : Float → Type 0
+InF32 r = T (fits binary32 r)
 
-accurate_fits : (x y : Float) → T (fits binary32 (compoundf_accurate x y))
+exp2_fits : (t : DoubleDouble) → InF32 (exp2_accurate t)
+unfolding exp2_accurate exp2_away scaled_to_f32
+exp2_fits t = cond_both (is_near_one (nearest_whole t.hi) t.hi) _ _ InF32 (λ _. narrowed_fits _) (λ _. narrowed_fits _)
+
+accurate_fits : (x y : Float) → InF32 (compoundf_accurate x y)
 unfolding compoundf_accurate
-accurate_fits x y =
-    let t = quick_mult_f64 (compoundf_log2p1_accurate x) y in
-    either (λ (r : Float). T (fits binary32 r)) (eq y Special.one) (add binary32 Special.one x) (exp2_accurate t) (add-fits binary32 Special.one x) (exp2_fits t)
+accurate_fits x y = cond_both (eq y Special.one) _ _ InF32 (λ _. add-fits binary32 Special.one x) (λ _. exp2_fits _)
 
 -- ---- the route `fast`: a value that passes both tests
 -- the value below which the first test fails
@@ -66,31 +63,25 @@ passed_clear (fin false m e) err h k = tt
 
 -- ---- the choice between the two
 module _ (x y : Float) (slow : Plain (compoundf_accurate x y)) where
-  tested_plain : (v err : Float) → Plain (decided x y (rounding_test v err)).value
-  unfolding rounding_test decided
-  tested_plain v err = go (lt v (f64 0x38100000000008e2)) (ne (narrowed (v ⊖ err)) (narrowed (v ⊕ err))) refl refl
-    where
-      go : (a b : Bool) → lt v (f64 0x38100000000008e2) ≡ a → ne (narrowed (v ⊖ err)) (narrowed (v ⊕ err)) ≡ b → Plain (decided x y (cond a Failed (cond b Failed (Rounded v)))).value
-      go true b h k = slow
-      go false true h k = slow
-      go false false h k = plain_narrowed v (passed_clear v err (ap (lt v) (sym least_is) ∙ h) k)
+  abbrev Value : Option Float → Type 0
+  Value found = Plain (decided x y found).value
 
-  decided_plain : (t : Float) → Plain (decided x y (exp2_fast t)).value
+  tested_plain : (v err : Float) → Value (rounding_test v err)
+  unfolding rounding_test decided
+  tested_plain v err =
+      cond_both (lt v (f64 0x38100000000008e2)) _ _ Value (λ _. slow)
+      (λ h. cond_both (ne (narrowed (v ⊖ err)) (narrowed (v ⊕ err))) _ _ Value (λ _. slow) (λ k. plain_narrowed v (passed_clear v err (ap (lt v) (sym least_is) ∙ h) k)))
+
+  decided_plain : (t : Float) → Value (exp2_fast t)
   unfolding exp2_fast
   decided_plain t = tested_plain _ _
 
 -- ---- the choice of the route by t
 pub table_plain : SlowClear → (x y : Float) → Tabled x y → Plain (table_path x y).value
 unfolding table_path from_logarithm
-table_plain slow x y p = go (le t (fin true 75 (pos 1))) (lt t (fin false 1 (pos 7))) (leb (to_bits binary64 t * 2 % 2 ^ 64) 0x3e6715476ba97f14) refl refl refl
-  where
-    t : Float
-    t = compoundf_log2p1_fast x ⊗ y
-
-    go : (a b c : Bool) → le t (fin true 75 (pos 1)) ≡ a → lt t (fin false 1 (pos 7)) ≡ b → leb (to_bits binary64 t * 2 % 2 ^ 64) 0x3e6715476ba97f14 ≡ c
-        → Plain (cond a (record { via = edge; value = Special.zero })
-        (cond (not b) (record { via = edge; value = Special.+infinity }) (cond c (record { via = edge; value = Special.one }) (decided x y (exp2_fast t))))).value
-    go true b c d e f = plain_zero
-    go false false c d e f = plain_infinity
-    go false true true d e f = plain_one
-    go false true false d e f = decided_plain x y (record { in_f32 = accurate_fits x y; is_clear = slow x y p d e f }) t
+table_plain slow x y p =
+    let t = compoundf_log2p1_fast x ⊗ y in
+    cond_both (le t (fin true 75 (pos 1))) _ _ PlainValue (λ _. plain_zero)
+    (λ above. cond_both (not (lt t (fin false 1 (pos 7)))) _ _ PlainValue (λ _. plain_infinity)
+    (λ below. cond_both (leb (to_bits binary64 t * 2 % 2 ^ 64) 0x3e6715476ba97f14) _ _ PlainValue (λ _. plain_one)
+    (λ apart. decided_plain x y (record { in_f32 = accurate_fits x y; is_clear = slow x y p (record { above = above; below = not-false _ below; apart = apart }) }) t)))

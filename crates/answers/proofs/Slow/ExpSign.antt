@@ -9,6 +9,7 @@ use native.Mathlib.Omega.{arith}
 use lib.Dec.{T}
 use lib.IntN.{ℤ, pos, negsuc}
 use lib.Ieee.{Float, binary64, lt, to_bits}
+use Rattle.std.proofs.lemmas.Bool.{cond_both}
 use Rattle.floats.specs.Operations.{◌⊕◌, ◌⊖◌, f64}
 use Rattle.floats.proofs.Laws.Magnitude.{below_infinity}
 use Rattle.floats.proofs.Laws.Order.{clear}
@@ -17,7 +18,7 @@ use Rattle.double_double.specs.DoubleDouble.{from_exact_add}
 use Rattle.special.specs.Special.{zero}
 use Rattle.fast_path.specs.Scaling.{scaled, Within}
 use Rattle.fast_path.specs.Fast.{power_index, HasPower}
-use Rattle.slow_path.specs.Slow.{clamped_index, clamped_k, test_pattern, is_lost, one_towards, rounded_to_odd, scaled_to_f32, exp2_product, is_small, exp2_away}
+use Rattle.slow_path.specs.Slow.{clamped_index, clamped_k, test_pattern, is_lost, one_towards, rounded_to_odd, scaled_to_f32, exp2_product, err_of, is_small, exp2_away}
 use Rattle.slow_path.proofs.Clamped.{index_unclamped, clamped_k_within}
 use Rattle.bounds.proofs.Scales.{S, Bound, at, fast_bounds}
 use Rattle.bounds.proofs.Compared.{positive_at, positive_add, positive_bits}
@@ -59,22 +60,16 @@ towards v false l u = (omega arith, omega arith)
 
 rounded_middle : (q : DoubleDouble) (w : ℕ) → 1003 * 2 ^ 52 ≤ to_bits binary64 (q.hi ⊕ q.lo) → to_bits binary64 (q.hi ⊕ q.lo) < 1045 * 2 ^ 52 → Middle (rounded_to_odd q w)
 unfolding rounded_to_odd one_towards
-rounded_middle q w l u = go (is_lost q w (to_bits binary64 (q.hi ⊕ q.lo)))
-  where
-    plain : (v : ℕ) → 1003 * 2 ^ 52 ≤ v → v < 1045 * 2 ^ 52 → Middle v
-    plain v l u = (omega arith, omega arith)
+rounded_middle q w l u =
+    cond_both (is_lost q w (to_bits binary64 (q.hi ⊕ q.lo))) _ _ Middle (λ _. towards (to_bits binary64 (q.hi ⊕ q.lo)) (lt zero q.lo) l u) (λ _. (omega (arith, l), omega (arith, u)))
 
-    go : (b : Bool) → Middle (cond b ((to_bits binary64 (q.hi ⊕ q.lo) + cond (lt zero q.lo) 1 (2 ^ 64 - 1)) % 2 ^ 64) (to_bits binary64 (q.hi ⊕ q.lo)))
-    go true = towards (to_bits binary64 (q.hi ⊕ q.lo)) (lt zero q.lo) l u
-    go false = plain (to_bits binary64 (q.hi ⊕ q.lo)) l u
-
-scaled_clear : (q : DoubleDouble) (small : Bool) (k : ℤ) → Product q → Within 1000 k → T (clear (scaled_to_f32 q small k))
+scaled_clear : (q : DoubleDouble) (err : Float) (k : ℤ) → Product q → Within 1000 k → T (clear (scaled_to_f32 q err k))
 unfolding scaled_to_f32
-scaled_clear q small k p h =
+scaled_clear q err k p h =
     let sum = positive_at (2 ^ 50) (2 ^ 55) (positive_add p.hi p.lo tt tt) tt tt in
     let bits = positive_bits sum tt tt in
-    let n = rounded_to_odd q (test_pattern q small k) in
-    (plain_narrowed (f64 (scaled n k)) (below_clear (scaled n k) (scaled_below n k (rounded_middle q (test_pattern q small k) bits.0 bits.1) h))).is_clear
+    let n = rounded_to_odd q (test_pattern q err k) in
+    (plain_narrowed (f64 (scaled n k)) (below_clear (scaled n k) (scaled_below n k (rounded_middle q (test_pattern q err k) bits.0 bits.1) h))).is_clear
 
 -- ---- the index, and all of it
 -- v.hi is 65/128 at most in size
@@ -94,6 +89,6 @@ module _ (t : DoubleDouble) (k : Float) (b : Bound S (2 ^ 52) (t.hi ⊖ k)) (c :
   away_clear =
       let v = shifted t k in
       let i = clamped_index v.hi in
-      scaled_clear (exp2_product v i) (is_small k i t.hi) (clamped_k k)
+      scaled_clear (exp2_product v i) (err_of (is_small k i t.hi)) (clamped_k k)
       (subst (λ (n : ℕ). Product (exp2_product v n)) (index_unclamped v.hi slot.inside) (product_near_one v (power_index v.hi) slot.inside slot.rest (at (2 ^ 8) (fast_bounds b c tt).lo tt)))
       (clamped_k_within k)

@@ -7,15 +7,15 @@ use Prim.Native.Nat.{ℕ, zero, suc, ◌+◌, ◌-◌, ◌*◌, ◌^◌, ◌≤�
 use native.Mathlib.Nat.{le_trans, le_of_eq, one-mul}
 use native.Mathlib.Omega.{arith}
 use lib.Dec.{lit≤, lit<}
-use lib.IntN.{pos, negsuc, neg_ℤ}
+use lib.IntN.{pos, negsuc}
 use lib.Ieee.{Float, fin, binary64, fits, to_bits, of_bits, of_int, add, sub, mul, neg}
 use lib.Ieee.Fits.{add-fits}
-use Rattle.floats.specs.Operations.{◌⊕◌, ◌⊗◌, f64}
+use Rattle.floats.specs.Operations.{◌⊕◌, ◌⊗◌}
 use Rattle.floats.proofs.Laws.Powers.{mul_one}
 use Rattle.floats.proofs.Laws.Sums.{add_mono}
 use Rattle.double_double.specs.declared.DoubleDouble.{DoubleDouble}
 use Rattle.double_double.specs.DoubleDouble.{split, from_exact_mult, from_exact_add, from_full_exact_add, full_add_f64, dd_fmla}
-use Rattle.tables.specs.Tables.{entry, pair_entry, from_bit_pair, log2p1_compoundf_inv, log2p1_compoundf_log2_inv, log2p1_scale, log2p1_poly_p}
+use Rattle.tables.specs.Tables.{entry, pair_entry, log2p1_compoundf_inv, log2p1_compoundf_log2_inv, log2p1_scale}
 use Rattle.special.specs.Special.{one, minus_one}
 use Rattle.fast_path.specs.Scaling.{scaled, biased, exponent_of}
 use Rattle.fast_path.specs.Fast.{inverse_index, log2p1_polyeval1, compoundf_log2p1_fast}
@@ -25,6 +25,7 @@ use Rattle.bounds.proofs.Values.{plus, less, mag, Number}
 use Rattle.bounds.proofs.Scales.{S, unit, unit_left, Scale, Bound, at, mul_bound, fast_bounds, tested}
 use Rattle.bounds.proofs.Compared.{le_of_units, positive_bound}
 use Rattle.bounds.proofs.OwnScale.{Nil, nil_bound, on_own}
+use Rattle.compound.proofs.Absorbed.{fast_at, fast_at_lem, at_one}
 use Rattle.slow_path.proofs.Logs.{Logs, near}
 use Rattle.slow_path.proofs.LowPart.{one_is_1}
 use Rattle.fast_path.proofs.Reduced.{no_power, one_19}
@@ -32,18 +33,6 @@ use Rattle.fast_path.proofs.Reduced.{no_power, one_19}
 -- ---- the f64 sum, by its pattern
 abbrev tiny : Float
 tiny = fin false 1 (negsuc 52)
-
--- the fast logarithm of the pattern of 1 + x
-abbrev fast_at : ℕ → Float
-fast_at v =
-    let e = exponent_of v in
-    let t = f64 (scaled v (neg_ℤ e)) in
-    let i = inverse_index t in
-    of_int binary64 e ⊕ ((pair_entry log2p1_compoundf_log2_inv i).hi ⊕ log2p1_polyeval1 (dd_fmla (entry log2p1_compoundf_inv i) t minus_one))
-
-fast_at_lem : (x : Float) → compoundf_log2p1_fast x ≡ fast_at (to_bits binary64 (one ⊕ x))
-unfolding compoundf_log2p1_fast
-fast_at_lem x = refl
 
 -- 1 or the f64 before it
 sum_bits : (x : Float) → Number x → mag x ≤ S → (0x3fefffffffffffff ≤ to_bits binary64 (one ⊕ x)) × (to_bits binary64 (one ⊕ x) ≤ 0x3ff0000000000000)
@@ -65,11 +54,6 @@ one_of_two v l h = go (v - 0x3fefffffffffffff) refl
     go : (d : ℕ) → v - 0x3fefffffffffffff ≡ d → (v ≡ 0x3fefffffffffffff) ⊎ (v ≡ 0x3ff0000000000000)
     go zero e = inl (omega (arith, e))
     go (suc d) e = inr (omega (arith, e))
-
--- at 1 the fast logarithm is 0
-at_one : Nil (fast_at 0x3ff0000000000000)
-unfolding exponent_of biased scaled inverse_index entry pair_entry from_bit_pair log2p1_compoundf_inv log2p1_compoundf_log2_inv log2p1_poly_p log2p1_polyeval1 dd_fmla full_add_f64 from_full_exact_add from_exact_mult split of_int of_bits to_bits add sub mul neg fits
-at_one = record { number = record { held = tt; plain = tt }; is = refl }
 
 -- before it, z is -2^-53
 before_one : fast_at 0x3fefffffffffffff ≡ of_int binary64 (pos 0) ⊕ ((pair_entry log2p1_compoundf_log2_inv 19).hi ⊕ log2p1_polyeval1 (fin true 1 (negsuc 52)))

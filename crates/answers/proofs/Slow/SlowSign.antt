@@ -13,6 +13,8 @@ use lib.IntN.{pos, negsuc}
 use lib.Ieee.{Float, nan, inf, fin, binary32, binary64, up, down, unlike, size, fits, to_bits, of_bits, add, mul, lt, le, eq, is_nan, to_signed}
 use lib.Ieee.Fits.{and_r, sub-fits, mul-fits}
 use lib.Ieee.Scale.{finite}
+use Rattle.std.proofs.lemmas.Bool.{cond_both}
+use Rattle.filter.specs.Right.{Inside}
 use Rattle.floats.specs.Operations.{◌⊕◌, ◌⊖◌, ◌⊗◌, f64}
 use Rattle.floats.specs.Narrowing.{narrowed, nearest_whole}
 use Rattle.floats.specs.OnBits.{absolute}
@@ -27,7 +29,8 @@ use Rattle.special.specs.Special as Special
 use Rattle.special.specs.Special.{one, minus_one}
 use Rattle.fast_path.specs.Fast.{compoundf_log2p1_fast, HasPower}
 use Rattle.slow_path.specs.Slow.{clamped_k, one_plus, compoundf_log2p1_accurate, is_near_one, exp2_away, exp2_accurate, compoundf_accurate}
-use Rattle.compound.specs.Route.{Tabled}
+use Rattle.special.specs.Operands.{Tabled}
+use Rattle.compound.specs.Route.{}
 use Rattle.fast_path.proofs.Index.{between_finite}
 use Rattle.fast_path.proofs.OnePlus.{sum_clear, sum_bits}
 use Rattle.floats.proofs.Laws.Tests.{second}
@@ -102,7 +105,7 @@ product_number (fin s m e) (inf t) p q = absurd q
 product_number (fin s m e) (fin t n d) p q = round_number binary64 (unlike s t) (m * up e * (n * up d)) (down e * down d)
 
 pub exponent_number : (x y : Float) → Tabled x y → T (not (is_nan (compoundf_log2p1_fast x ⊗ y)))
-exponent_number x y t = product_number (compoundf_log2p1_fast x) y (go (both_logs x t.x_fits t.x_finite t.x_above)) t.y_finite
+exponent_number x y t = product_number (compoundf_log2p1_fast x) y (go (both_logs x t.base.x_fits t.base.x_finite t.base.x_above)) t.y_finite
   where
     go : Logs (compoundf_log2p1_fast x) (compoundf_log2p1_accurate x) ⊎ Nil (compoundf_log2p1_fast x) → T (finite (compoundf_log2p1_fast x))
     go (inl logs) = logs.above.number.plain
@@ -260,23 +263,22 @@ record Exponent (t : DoubleDouble) : Type 0 where
   first : mag t.hi ≤ 1000 * per_one
   second : Bound S (2 ^ 22) t.lo
 
-module _ (x y : Float) (tabled : Tabled x y) (low : le (compoundf_log2p1_fast x ⊗ y) (fin true 75 (pos 1)) ≡ false) (high : lt (compoundf_log2p1_fast x ⊗ y) (fin false 1 (pos 7)) ≡ true)
-    (apart : leb (to_bits binary64 (compoundf_log2p1_fast x ⊗ y) * 2 % 2 ^ 64) 0x3e6715476ba97f14 ≡ false) where
+module _ (x y : Float) (tabled : Tabled x y) (inside : Inside (compoundf_log2p1_fast x ⊗ y)) where
   Y : Number y × (mag y ≤ 2 ^ 128 * per_one)
   Y = f32_number y tabled.y_fits tabled.y_finite
 
   slow_exponent_lem : Exponent (quick_mult_f64 (compoundf_log2p1_accurate x) y)
-  slow_exponent_lem = go (both_logs x tabled.x_fits tabled.x_finite tabled.x_above)
+  slow_exponent_lem = go (both_logs x tabled.base.x_fits tabled.base.x_finite tabled.base.x_above)
     where
       go : Logs (compoundf_log2p1_fast x) (compoundf_log2p1_accurate x) ⊎ Nil (compoundf_log2p1_fast x) → Exponent (quick_mult_f64 (compoundf_log2p1_accurate x) y)
       go (inl logs) =
-          let t = (t_number (compoundf_log2p1_fast x ⊗ y) (mul-fits binary64 (compoundf_log2p1_fast x) y) low high).1 in
+          let t = (t_number (compoundf_log2p1_fast x ⊗ y) (mul-fits binary64 (compoundf_log2p1_fast x) y) inside.above inside.below).1 in
           record {
             number = (exponent_bounds (compoundf_log2p1_fast x) y (compoundf_log2p1_accurate x) logs Y.0 Y.1 t).hi.number;
             first = first_part (compoundf_log2p1_fast x) y (compoundf_log2p1_accurate x) logs Y.0 Y.1 t;
             second = second_part (compoundf_log2p1_fast x) y (compoundf_log2p1_accurate x) logs Y.0 Y.1 t;
           }
-      go (inr nil) = absurd (true≢false (sym (ap (λ (n : ℕ). leb n 0x3e6715476ba97f14) (nil_bits (compoundf_log2p1_fast x) y nil Y.0)) ∙ apart))
+      go (inr nil) = absurd (true≢false (sym (ap (λ (n : ℕ). leb n 0x3e6715476ba97f14) (nil_bits (compoundf_log2p1_fast x) y nil Y.0)) ∙ inside.apart))
 
   -- its index is inside the table of powers: none is cut, neither below 0 nor above 32
   pub slow_index : let t = quick_mult_f64 (compoundf_log2p1_accurate x) y in HasPower (from_exact_add (t.hi ⊖ nearest_whole t.hi) t.lo).hi
@@ -296,8 +298,4 @@ module _ (x y : Float) (tabled : Tabled x y) (low : le (compoundf_log2p1_fast x 
 
 pub slow_clear : SlowClear
 unfolding compoundf_accurate
-slow_clear x y tabled low high apart = go (eq y one)
-  where
-    go : (b : Bool) → T (clear (cond b (add binary32 one x) (exp2_accurate (quick_mult_f64 (compoundf_log2p1_accurate x) y))))
-    go true = one_plus_f32 x tabled.x_finite tabled.x_above
-    go false = power_clear x y tabled low high apart
+slow_clear x y tabled inside = cond_both (eq y one) _ _ (λ r. T (clear r)) (λ _. one_plus_f32 x tabled.base.x_finite tabled.base.x_above) (λ _. power_clear x y tabled inside)

@@ -22,7 +22,8 @@ use Rattle.special.specs.Special.{one, minus_one, is_zero, is_special, is_rule}
 use Rattle.special.specs.Special as Special
 use Rattle.whole.specs.Whole as Whole
 use Rattle.whole.specs.Whole.{is_whole}
-use Rattle.compound.specs.Answer.{Outcome, rule, whole}
+use Rattle.compound.specs.declared.Route.TheVariants.{Rule as rule, Whole as whole}
+use Rattle.compound.specs.Answer.{Outcome}
 use Rattle.compound.specs.Route.{compound, table_path}
 use Rattle.answers.specs.Claims.{answer, whole_to16, x_in_range}
 

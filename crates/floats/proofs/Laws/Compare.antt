@@ -1,7 +1,7 @@
 -- Comparisons by patterns. A pattern has a key, a number that grows with the value: the pattern counted up from the middle where the sign is
 -- clear, and down from it where it is set, so that both zeros have the middle. Of two values that are no NaN the comparisons are those of
 -- their patterns' keys (`lt_by_key`, `eq_by_key`, `le_by_key`). Assumes nothing.
-use Rattle.std.proofs.Common.{◌≡◌, ℕ, zero, suc, ◌+◌, ◌-◌, ◌*◌, ◌%◌, ◌<◌, ◌≤◌, Bool, true, false, cond, not, ◌&&◌, ◌||◌, T, eqb, ltb, leb, pos, sym, refl, ap, ◌∙◌, subst, ap₂, zero-lt-suc, add_comm, mul-pos, zero-add, zero-mul, arith, le→leb, ltb→lt, lt→ltb, leb→le, ltb-false, ltb-true, le-ltb, lt-ltb, eq-eqb, ne_eqb, le-leb, leb-false, leb-true}
+use Rattle.std.proofs.Common.{◌≡◌, ℕ, zero, suc, ◌+◌, ◌-◌, ◌*◌, ◌%◌, ◌<◌, ◌≤◌, Bool, true, false, cond, not, ◌&&◌, ◌||◌, T, ◌⊎◌, inl, inr, le_antisymm, eqb, ltb, leb, pos, sym, refl, ap, ◌∙◌, subst, ap₂, zero-lt-suc, add_comm, mul-pos, zero-add, zero-mul, arith, le→leb, leb→le, lt-ltb, le-leb}
 use borrow.Author.Tests.{lt-leb}
 use lib.Ieee.{Float, nan, inf, fin, Format, binary32, binary64, up, down, neg, lt, eq, le, fits, is_nan, hid, ones, top, to_bits, of_bits}
 use lib.Ieee.Bits.{of_bits-fits, to_bits-of_bits, nan_bits_is}
@@ -10,6 +10,9 @@ use Rattle.floats.proofs.Laws.Nan.{number_of_below}
 use Rattle.floats.proofs.Laws.Place.{bits_of_inf}
 use Rattle.floats.proofs.Laws.Units.{bits_of_sign, bits_under_top, fits_signed}
 use Rattle.floats.proofs.Laws.Magnitude.{inf_under_top}
+use Rattle.std.proofs.lemmas.Bool.{cases_lt}
+use Rattle.std.proofs.lemmas.Bool.Decides.{nat_tests}
+pub use Rattle.floats.proofs.Laws.Order.{at_most}
 use Rattle.floats.proofs.Laws.Order.{clear, clear_both, pattern_mono, order_of_patterns}
 
 -- a pattern's place in the order of the values
@@ -26,10 +29,7 @@ key_set f n h = rw (le-leb (top f) n h) refl
 
 -- two tests that imply each other
 pub same_truth : (a b : Bool) → (T a → T b) → (T b → T a) → a ≡ b
-same_truth true true p q = refl
-same_truth true false p q = absurd (p tt)
-same_truth false true p q = absurd (q tt)
-same_truth false false p q = refl
+same_truth a b p q = grind arith
 
 -- ---- numbers
 -- a below b, equal to it, or above it
@@ -40,58 +40,22 @@ pub data Order (a b : ℕ) : Type 0 where
 
 -- one of the three
 pub order : (a b : ℕ) → Order a b
-order a b = go (ltb a b) refl (ltb b a) refl
+order a b = go (cases_lt a b) (cases_lt b a)
   where
-    go : (p : Bool) → ltb a b ≡ p → (q : Bool) → ltb b a ≡ q → Order a b
-    go true e q d = less (ltb-true a b e)
-    go false e true d = more (ltb-true b a d)
-    go false e false d = same (omega (arith, ltb-false a b e, ltb-false b a d))
+    go : (a < b) ⊎ (b ≤ a) → (b < a) ⊎ (a ≤ b) → Order a b
+    go (inl h) k = less h
+    go (inr h) (inl k) = more k
+    go (inr h) (inr k) = same (le_antisymm k h)
 
 pub not_leb : (a b : ℕ) → not (leb b a) ≡ ltb a b
-not_leb a b = go (leb b a) refl
-  where
-    go : (p : Bool) → leb b a ≡ p → not p ≡ ltb a b
-    go true e = sym (le-ltb a b (leb-true b a e))
-    go false e = sym (lt-ltb a b (leb-false b a e))
-
-eqb_by_ltb : (a b : ℕ) → eqb a b ≡ (not (ltb a b) && not (ltb b a))
-eqb_by_ltb a b = go (order a b)
-  where
-    go : Order a b → eqb a b ≡ (not (ltb a b) && not (ltb b a))
-    go (less h) = simp (ne_eqb a b (omega (arith, h)), lt-ltb a b h)
-    go (same h) = simp (eq-eqb a b h, le-ltb a b (omega (arith, h)), le-ltb b a (omega (arith, h)))
-    go (more h) = simp (ne_eqb a b (omega (arith, h)), le-ltb a b (omega (arith, h)), lt-ltb b a h)
-
-leb_by_ltb : (a b : ℕ) → leb a b ≡ (ltb a b || eqb a b)
-leb_by_ltb a b = go (order a b)
-  where
-    go : Order a b → leb a b ≡ (ltb a b || eqb a b)
-    go (less h) = simp (le-leb a b (omega (arith, h)), lt-ltb a b h)
-    go (same h) = simp (le-leb a b (omega (arith, h)), eq-eqb a b h, le-ltb a b (omega (arith, h)))
-    go (more h) = simp (lt-leb a b h, le-ltb a b (omega (arith, h)), ne_eqb a b (omega (arith, h)))
+not_leb a b = grind (arith, nat_tests)
 
 -- true and false at the right of a test
 pub or_true : (p : Bool) → (p || true) ≡ true
-or_true true = refl
-or_true false = refl
+or_true p = grind arith
 
 pub and_false : (p : Bool) → (p && false) ≡ false
-and_false true = refl
-and_false false = refl
-
-and_swap : (p q : Bool) → (p && q) ≡ (q && p)
-and_swap true true = refl
-and_swap true false = refl
-and_swap false true = refl
-and_swap false false = refl
-
-and_true : (p : Bool) → (p && true) ≡ p
-and_true true = refl
-and_true false = refl
-
--- what `le` says of two sizes with the sign clear
-pub at_most : (a b : ℕ) → T (ltb a b || (eqb a b && true)) → a ≤ b
-at_most a b t = leb→le a b (subst T (ap (λ (z : Bool). ltb a b || z) (and_true (eqb a b)) ∙ sym (leb_by_ltb a b)) t)
+and_false p = grind arith
 
 -- ---- values whose sign is clear
 lt_of_clear : (x y : Float) → T (clear x) → T (clear y) → lt x y ≡ not (le y x)
@@ -99,7 +63,7 @@ unfolding lt le eq
 lt_of_clear = clear_both (λ (x y : Float). lt x y ≡ not (le y x)) refl (λ n d. refl) (λ m e. refl) (λ m e n d. go (m * up e * down d) (n * up d * down e))
   where
     go : (a b : ℕ) → ltb a b ≡ not (ltb b a || (eqb b a && true))
-    go a b = sym (ap not (ap (λ (z : Bool). ltb b a || z) (and_true (eqb b a)) ∙ sym (leb_by_ltb b a)) ∙ not_leb a b)
+    go a b = grind (arith, nat_tests)
 
 lt_clear : (f : Format) (x y : Float) → T (clear x) → T (clear y) → T (fits f x) → T (fits f y) → lt x y ≡ ltb (to_bits f x) (to_bits f y)
 lt_clear f x y p q t u =
@@ -182,11 +146,11 @@ key_of : (f : Format) (s : Bool) (a : ℕ) → a < top f → key f (cond s (top 
 key_of f true a h = go (top f)
   where
     go : (t : ℕ) → cond (leb t (t + a)) (2 * t - (t + a)) (t + (t + a)) ≡ t - a
-    go t = simp (le-leb t (t + a) (omega arith)) (omega arith)
+    go t = grind (arith, nat_tests)
 key_of f false a h = go (top f) h
   where
     go : (t : ℕ) → a < t → cond (leb t (0 + a)) (2 * t - (0 + a)) (t + (0 + a)) ≡ t + a
-    go t h = simp (lt-leb t (0 + a) (omega arith)) (omega arith)
+    go t h = grind (arith, nat_tests)
 
 above_zero : (f : Format) (x : Float) → T (clear x) → T (fits f x) → lt (fin false 0 (pos 0)) x ≡ ltb 0 (to_bits f x)
 unfolding fits to_bits
@@ -195,27 +159,25 @@ above_zero binary64 x p t = lt_clear binary64 (fin false 0 (pos 0)) x tt p tt t
 
 -- two tests of orders that imply each other
 pub ltb_same : (a b c d : ℕ) → (a < b → c < d) → (c < d → a < b) → ltb a b ≡ ltb c d
-ltb_same a b c d p q = same_truth (ltb a b) (ltb c d) (λ h. lt→ltb c d (p (ltb→lt a b h))) (λ h. lt→ltb a b (q (ltb→lt c d h)))
+ltb_same a b c d p q = grind (arith, nat_tests)
 
 up_shift : (t a b : ℕ) → ltb a b ≡ ltb (t + a) (t + b)
-up_shift t a b = ltb_same a b (t + a) (t + b) (λ h. omega (arith, h)) (λ h. omega (arith, h))
+up_shift t a b = grind (arith, nat_tests)
 
 down_shift : (t a b : ℕ) → a < t → b < t → ltb b a ≡ ltb (t - a) (t - b)
-down_shift t a b p q = ltb_same b a (t - a) (t - b) (λ h. omega (arith, h)) (λ h. omega (arith, h))
+down_shift t a b p q = grind (arith, nat_tests)
 
-apart : (t a b : ℕ) → t - b ≤ t + a
-apart t a b = omega arith
+apart : (t a b : ℕ) → false ≡ ltb (t + a) (t - b)
+apart t a b = grind (arith, nat_tests)
 
 across : (t a b : ℕ) → a < t → b < t → (ltb 0 a || ltb 0 b) ≡ ltb (t - a) (t + b)
-across t zero zero p q = sym (le-ltb (t - 0) (t + 0) (omega arith))
-across t zero (suc b) p q = ap₂ ◌||◌ (le-ltb 0 0 (omega arith)) (lt-ltb 0 (suc b) (omega arith)) ∙ sym (lt-ltb (t - 0) (t + suc b) (omega arith))
-across t (suc a) b p q = ap (λ (z : Bool). z || ltb 0 b) (lt-ltb 0 (suc a) (omega arith)) ∙ sym (lt-ltb (t - suc a) (t + b) (omega arith))
+across t a b p q = grind (arith, nat_tests)
 
 lt_signed : (f : Format) (s t : Bool) (x y : Float) → T (clear x) → T (clear y) → T (fits f x) → T (fits f y) → to_bits f x < top f → to_bits f y < top f
     → lt (cond s (neg x) x) (cond t (neg y) y) ≡ ltb (cond s (top f - to_bits f x) (top f + to_bits f x)) (cond t (top f - to_bits f y) (top f + to_bits f y))
 lt_signed f false false x y p q u v a b = lt_clear f x y p q u v ∙ up_shift (top f) (to_bits f x) (to_bits f y)
 lt_signed f true true x y p q u v a b = lt_both x y p q ∙ lt_clear f y x q p v u ∙ down_shift (top f) (to_bits f x) (to_bits f y) a b
-lt_signed f false true x y p q u v a b = lt_down x y p q ∙ sym (le-ltb (top f + to_bits f x) (top f - to_bits f y) (apart (top f) (to_bits f x) (to_bits f y)))
+lt_signed f false true x y p q u v a b = lt_down x y p q ∙ apart (top f) (to_bits f x) (to_bits f y)
 lt_signed f true false x y p q u v a b = lt_up x y p q ∙ ap₂ ◌||◌ (above_zero f x p u) (above_zero f y q v) ∙ across (top f) (to_bits f x) (to_bits f y) a b
 
 -- ---- the laws, for two values that are no NaN
@@ -230,12 +192,16 @@ lt_by_key f x y t u p q = go (signed f x t p) (signed f y u q)
         ∙ sym (ap₂ ltb (ap (key f) a.bits ∙ key_of f a.sign (to_bits f a.size) a.small) (ap (key f) b.bits ∙ key_of f b.sign (to_bits f b.size) b.small))
 
 level_same : (a b : ℕ) → (eqb a b && true) ≡ (not (ltb a b) && not (ltb b a))
-level_same a b = and_true (eqb a b) ∙ eqb_by_ltb a b
+level_same a b = grind (arith, nat_tests)
+
+level_turned : (a b : ℕ) → (eqb a b && true) ≡ (not (ltb b a) && not (ltb a b))
+level_turned a b = grind (arith, nat_tests)
 
 level_other : (a b : ℕ) → (eqb a b && (false || eqb a 0)) ≡ not (ltb 0 (a + b))
-level_other zero zero = refl
-level_other zero (suc b) = simp (ne_eqb 0 (suc b) (omega arith), lt-ltb 0 (zero + suc b) (omega arith))
-level_other (suc a) b = simp (ne_eqb (suc a) 0 (omega arith), lt-ltb 0 (suc a + b) (omega arith)) (and_false (eqb (suc a) b))
+level_other a b = grind (arith, nat_tests)
+
+level_across : (a b : ℕ) → (eqb a b && (false || eqb a 0)) ≡ (not (ltb 0 (a + b)) && true)
+level_across a b = grind (arith, nat_tests)
 
 pub eq_by_lt : (x y : Float) → T (not (is_nan x)) → T (not (is_nan y)) → eq x y ≡ (not (lt x y) && not (lt y x))
 unfolding eq lt is_nan
@@ -250,8 +216,8 @@ eq_by_lt (inf false) (fin t n d) p q = refl
 eq_by_lt (fin s m e) nan p q = absurd q
 eq_by_lt (fin s m e) (inf true) p q = refl
 eq_by_lt (fin s m e) (inf false) p q = refl
-eq_by_lt (fin true m e) (fin true n d) p q = level_same (m * up e * down d) (n * up d * down e) ∙ and_swap (not (ltb (m * up e * down d) (n * up d * down e))) (not (ltb (n * up d * down e) (m * up e * down d)))
-eq_by_lt (fin true m e) (fin false n d) p q = level_other (m * up e * down d) (n * up d * down e) ∙ sym (and_true (not (ltb 0 (m * up e * down d + n * up d * down e))))
+eq_by_lt (fin true m e) (fin true n d) p q = level_turned (m * up e * down d) (n * up d * down e)
+eq_by_lt (fin true m e) (fin false n d) p q = level_across (m * up e * down d) (n * up d * down e)
 eq_by_lt (fin false m e) (fin true n d) p q = level_other (m * up e * down d) (n * up d * down e) ∙ ap (λ (z : ℕ). not (ltb 0 z)) (add_comm (m * up e * down d) (n * up d * down e))
 eq_by_lt (fin false m e) (fin false n d) p q = level_same (m * up e * down d) (n * up d * down e)
 
@@ -260,12 +226,18 @@ pub eq_by_key : (f : Format) (x y : Float) → T (fits f x) → T (fits f y) →
 eq_by_key f x y t u p q =
     eq_by_lt x y p q
     ∙ ap₂ (λ (a b : Bool). not a && not b) (lt_by_key f x y t u p q) (lt_by_key f y x u t q p)
-    ∙ sym (eqb_by_ltb (key f (to_bits f x)) (key f (to_bits f y)))
+    ∙ of_two (key f (to_bits f x)) (key f (to_bits f y))
+  where
+    of_two : (a b : ℕ) → (not (ltb a b) && not (ltb b a)) ≡ eqb a b
+    of_two a b = grind (arith, nat_tests)
 
 -- x <= y
 pub le_by_key : (f : Format) (x y : Float) → T (fits f x) → T (fits f y) → T (not (is_nan x)) → T (not (is_nan y)) → le x y ≡ leb (key f (to_bits f x)) (key f (to_bits f y))
 unfolding le
-le_by_key f x y t u p q = ap₂ ◌||◌ (lt_by_key f x y t u p q) (eq_by_key f x y t u p q) ∙ sym (leb_by_ltb (key f (to_bits f x)) (key f (to_bits f y)))
+le_by_key f x y t u p q = ap₂ ◌||◌ (lt_by_key f x y t u p q) (eq_by_key f x y t u p q) ∙ of_two (key f (to_bits f x)) (key f (to_bits f y))
+  where
+    of_two : (a b : ℕ) → (ltb a b || eqb a b) ≡ leb a b
+    of_two a b = grind (arith, nat_tests)
 
 -- ---- the value of a pattern against another value
 -- a pattern up to the infinity's, the sign apart, is a number's

@@ -1,6 +1,6 @@
 -- Why a whole number is told by the exponent's field and the zeros at the end of the digits: an f32 is digits * 2 ^ (field - 150), the leading
 -- digit among the digits, so it is whole where the zeros at their end make up for the negative exponent (`integer_of_bits`). Assumes nothing.
-use Rattle.std.proofs.Common.{◌≡◌, ℕ, zero, suc, ◌+◌, ◌-◌, ◌*◌, ◌/◌, ◌%◌, ◌^◌, ◌<◌, ◌≤◌, Bool, true, false, cond, T, eqb, leb, ◌⊎◌, ℤ, pos, negsuc, sym, refl, ap, ◌∙◌, subst, inl, inr, lt_of_lt_of_le, le_of_suc-le-suc, le_of_lt, lt_irrefl, mod-lt, zero-lt-suc, div-lt_iff_lt-mul, add_comm, suc-add, eq-or-lt_of_le, mul-pos, pow-suc, mul-one, arith, lit≤, le→leb, eqb→eq, pow_pos, pow_mono, shl_lt}
+use Rattle.std.proofs.Common.{◌≡◌, ℕ, zero, suc, ◌+◌, ◌-◌, ◌*◌, ◌/◌, ◌%◌, ◌^◌, ◌<◌, ◌≤◌, Bool, true, false, cond, T, eqb, leb, ◌⊎◌, ℤ, pos, negsuc, sym, refl, ap, ◌∙◌, subst, inl, inr, lt_of_lt_of_le, le_of_suc-le-suc, le_of_lt, le-add_left, lt_irrefl, mod-lt, zero-lt-suc, div-lt_iff_lt-mul, add_comm, suc-add, eq-or-lt_of_le, mul-pos, pow-suc, mul-one, arith, lit≤, le→leb, eqb→eq, pow_pos, pow_mono, shl_lt}
 use native.Mathlib.Nat.{mod-one, mod-mod_of_dvd, dvd-mul_right, pow-succ'}
 use lib.Dec.{not_T, leb-suc-suc}
 use lib.Arith.{lt→nleb}
@@ -30,19 +30,9 @@ one_more (suc d) q p h = go (q % 2) refl (λ (e : q % 2 ≡ 0). one_more d (q / 
     go zero e ih = ap suc (ih e)
     go (suc r) e ih = refl
 
-wider : (d q : ℕ) → q < 2 ^ 24 → 24 ≤ d → q < 2 ^ d
-wider d q h k = lt_of_lt_of_le h (pow_mono k)
-
-eight_more : (q : ℕ) → 0 < q → q < 2 ^ 24 → count_trailing_zeros 32 q ≡ count_trailing_zeros 24 q
-eight_more q p h =
-    one_more 31 q p (wider 31 q h (lit≤ tt))
-    ∙ one_more 30 q p (wider 30 q h (lit≤ tt))
-    ∙ one_more 29 q p (wider 29 q h (lit≤ tt))
-    ∙ one_more 28 q p (wider 28 q h (lit≤ tt))
-    ∙ one_more 27 q p (wider 27 q h (lit≤ tt))
-    ∙ one_more 26 q p (wider 26 q h (lit≤ tt))
-    ∙ one_more 25 q p (wider 25 q h (lit≤ tt))
-    ∙ one_more 24 q p h
+more : (k q : ℕ) → 0 < q → q < 2 ^ 24 → count_trailing_zeros (k + 24) q ≡ count_trailing_zeros 24 q
+more zero q p h = refl
+more (suc k) q p h = ap (λ (d : ℕ). count_trailing_zeros d q) (suc-add k 24) ∙ one_more (k + 24) q p (lt_of_lt_of_le h (pow_mono (le-add_left 24 k))) ∙ more k q p h
 
 -- ---- a value with odd digits is whole where its exponent is not negative
 abbrev whole : ℤ → Bool
@@ -136,7 +126,7 @@ integer_of_fields s (suc x) t X H = go (eq-or-lt_of_le (le_of_suc-le-suc X))
     go (inr l) =
         ap is_integer (cond_no (eqb (suc x) 255) (cond (eqb t 0) (inf s) nan) (odd 24 s (2 ^ 23 + t) x 149) (not_T (eqb (suc x) 255) (λ u. lt_irrefl 255 (subst (λ (y : ℕ). y < 255) (eqb→eq (suc x) 255 u) l))))
         ∙ integer_of_units s (2 ^ 23 + t) x (lead t) (normal_lt t H) (lt_of_lt_of_le (shl_lt 24 x (normal_lt t H)) (pow_mono (under_top x l)))
-        ∙ ap (λ (z : ℕ). leb 149 (x + z)) (sym (eight_more (2 ^ 23 + t) (lead t) (normal_lt t H)) ∙ ap (count_trailing_zeros 32) (add_comm (2 ^ 23) t))
+        ∙ ap (λ (z : ℕ). leb 149 (x + z)) (sym (more 8 (2 ^ 23 + t) (lead t) (normal_lt t H)) ∙ ap (count_trailing_zeros 32) (add_comm (2 ^ 23) t))
         ∙ sym (ap (leb 150) (suc-add x (count_trailing_zeros 32 (t + 2 ^ 23))) ∙ leb-suc-suc 149 (x + count_trailing_zeros 32 (t + 2 ^ 23)))
 
 pub integer_of_bits : (n : ℕ) → is_integer (of_bits binary32 n) ≡ leb 150 (n / 2 ^ 23 % 256 + count_trailing_zeros 32 (n % 2 ^ 23 + 2 ^ 23))

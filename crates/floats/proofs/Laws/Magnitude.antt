@@ -1,9 +1,10 @@
 -- A pattern with no sign that is at most the infinity's: what it stands for (`read_magnitude`). And a value that is no NaN, by its pattern
--- without the sign (`magnitude_of_bits`) and by the sign's bit (`clear_sign`, `set_sign`). Assumes nothing.
+-- without the sign (`magnitude_of_bits`) and by the sign's bit (`set_sign`). Assumes nothing.
 use Rattle.std.proofs.Common.{◌≡◌, ℕ, ◌+◌, ◌*◌, ◌%◌, ◌^◌, ◌<◌, ◌≤◌, Bool, true, false, cond, not, T, ◌⊎◌, ℤ, sym, refl, ap, ◌∙◌, subst, inl, inr, le_trans, le_of_eq, lt_of_le_of_lt, le_of_lt, mod-eq_of_lt, zero-add, not-le_of_lt, arith, lit<}
 use native.Mathlib.Nat.{add-mod_left}
 use lib.Ieee.{Float, nan, inf, fin, Format, binary32, binary64, prec, low, hid, ones, top, neg, fits, is_nan, nan_bits, to_bits, of_bits}
 use lib.Ieee.Bits.{nan_bits_is, of_bits-fits, of_bits-to_bits, to_bits-of_bits}
+use Rattle.std.specs.Float.{float_with_sign}
 use Rattle.floats.specs.OnBits.{absolute}
 use Rattle.floats.proofs.Laws.Nan.{number_of_below}
 use Rattle.floats.proofs.Laws.Place.{place, bits_of_inf}
@@ -96,10 +97,12 @@ absolute_of_bits binary64 nan t = refl
 absolute_of_bits f (inf s) t = magnitude_is f (inf s) t tt
 absolute_of_bits f (fin s m e) t = magnitude_is f (fin s m e) t tt
 
--- what `absf` and `abs` are made of: a NaN is its own size, and another pattern without its sign is no NaN's
-pub absolute_of_nan : (x : Float) → x ≡ nan → x ≡ absolute x
-unfolding absolute
-absolute_of_nan x e = e ∙ sym (ap absolute e)
+-- std's `abs` takes off the sign by `float_with_sign`, at a NaN too
+pub sign_off : (x : Float) → float_with_sign false x ≡ absolute x
+unfolding float_with_sign absolute
+sign_off nan = refl
+sign_off (inf s) = refl
+sign_off (fin s m e) = refl
 
 pub absolute_number : (x : Float) → T (not (is_nan x)) → T (not (is_nan (absolute x)))
 unfolding absolute is_nan
@@ -111,14 +114,6 @@ pub magnitude_number : (f : Format) (x : Float) → T (fits f x) → T (not (is_
 magnitude_number f x t n = subst (λ (b : Bool). T (not b)) (sym (nan_bits_is f (to_bits f x % top f) ∙ ap is_nan (magnitude_is f x t n))) (absolute_number x n)
 
 -- ---- the sign's bit
-pub clear_sign : (f : Format) (x : Float) → T (fits f x) → T (not (is_nan x)) → to_bits f x < top f → absolute x ≡ x
-unfolding absolute is_nan
-clear_sign f nan t n h = absurd n
-clear_sign f (inf true) t n h = absurd (signed_over (to_bits f (inf true)) (ones f * hid f) (top f) h (sym (bits_of_inf f true)))
-clear_sign f (inf false) t n h = refl
-clear_sign f (fin true m e) t n h = absurd (signed_over (to_bits f (fin true m e)) (to_bits f (fin false m e)) (top f) h (sym (bits_of_sign f true m e t)))
-clear_sign f (fin false m e) t n h = refl
-
 pub set_sign : (f : Format) (x : Float) → T (fits f x) → T (not (is_nan x)) → top f ≤ to_bits f x → neg (absolute x) ≡ x
 unfolding absolute is_nan neg
 set_sign f nan t n h = absurd n

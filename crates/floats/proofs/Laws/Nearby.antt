@@ -1,17 +1,19 @@
 -- A normal value plus one that is small beside it. Where the second is at most n last places of the first in size, the sum's pattern is at most n
 -- above the first one's and at most 2 * n below it, where the last places may be half as large (`add_nearby`). Assumes nothing.
-use Rattle.std.proofs.Common.{◌≡◌, ℕ, suc, ◌+◌, ◌-◌, ◌*◌, ◌^◌, ◌<◌, ◌≤◌, Bool, true, false, not, T, leb, sym, ap, ◌∙◌, subst, ap₂, le_trans, le_of_eq, lt_of_le_of_lt, le_of_lt, mul-le-mul_right, mod-eq_of_lt, mul-pos, arith, leb→le, pow_pos}
+use Rattle.std.proofs.Common.{◌≡◌, ℕ, suc, ◌+◌, ◌-◌, ◌*◌, ◌^◌, ◌<◌, ◌≤◌, Bool, true, false, cond, not, T, leb, sym, ap, ◌∙◌, subst, ap₂, le_trans, le_of_eq, lt_of_le_of_lt, le_of_lt, mul-le-mul_right, mod-eq_of_lt, mul-pos, arith, leb→le, pow_pos}
 use native.Mathlib.Nat.{pow-succ'}
 use lib.Dec.{nleb→lt}
-use lib.Ieee.{Float, nan, inf, fin, Format, prec, low, up, down, neg, add, lt, eq, le, fits, is_nan, hid, ones, top, to_bits, of_bits}
+use lib.Ieee.{Float, nan, inf, fin, Format, prec, low, up, down, neg, add, le, fits, is_nan, hid, ones, top, to_bits, of_bits}
 use lib.Ieee.Bits.{of_bits-fits, to_bits-of_bits}
 use lib.Ieee.Exact.{HasValue}
 use lib.Ieee.Fits.{down_pos, add-fits, two, two-le_pos}
+use Rattle.std.proofs.lemmas.Bool.Decides.{nat_tests}
+use Rattle.std.proofs.lemmas.Float.{le_right}
 use Rattle.floats.proofs.Laws.Units.{exponent, in_units}
 use Rattle.floats.proofs.Laws.Place.{units_below}
 use Rattle.floats.proofs.Laws.Magnitude.{Finite, inf_under_top}
 use Rattle.floats.proofs.Laws.Rounding.{round_holds}
-use Rattle.floats.proofs.Laws.Compare.{key, key_clear, key_set, le_by_key, number_of_bits}
+use Rattle.floats.proofs.Laws.Compare.{key, key_clear, le_by_key, number_of_bits}
 use Rattle.floats.proofs.Laws.Sums.{above, under, Rounded, rounded_mono, add_rounded}
 use Rattle.floats.proofs.Laws.Powers.{normal_value}
 
@@ -29,15 +31,6 @@ units_of_neg f b (inf s) h = h
 units_of_neg f b (fin s m e) h = h
 
 -- ---- between the values of two patterns
-le_number : (y x : Float) → T (le x y) → T (not (is_nan y))
-unfolding le lt eq is_nan
-le_number nan nan h = absurd h
-le_number nan (inf true) h = absurd h
-le_number nan (inf false) h = absurd h
-le_number nan (fin s m e) h = absurd h
-le_number (inf t) x h = tt
-le_number (fin t n d) x h = tt
-
 -- a value, by its pattern, from a to b
 pub record Between (f : Format) (a b : ℕ) (y : Float) : Type 0 where
   pub number : T (not (is_nan y))
@@ -47,8 +40,12 @@ pub record Between (f : Format) (a b : ℕ) (y : Float) : Type 0 where
 -- a value of the format that is from the value of a, which is positive, to that of b
 pub pattern_within : (f : Format) (a b : ℕ) (y : Float) → 0 < a → a ≤ ones f * hid f → b ≤ ones f * hid f → T (fits f y) → T (le (of_bits f a) y) → T (le y (of_bits f b)) → Between f a b y
 pattern_within f a b y P A B u g h =
-    let n = le_number y (of_bits f a) g in
-    go n (keyed_low n) (keyed_high n) (leb (top f) (to_bits f y)) (leb→le (top f) (to_bits f y)) (nleb→lt (top f) (to_bits f y))
+    let n = le_right (of_bits f a) y g in
+    let l : top f + a ≤ key f (to_bits f y) =
+    le_trans (le_of_eq (sym (key_of a A))) (leb→le (key f (to_bits f (of_bits f a))) (key f (to_bits f y)) (subst T (le_by_key f (of_bits f a) y (of_bits-fits f a) u (is_number a A) n) g)) in
+    let r : key f (to_bits f y) ≤ top f + b =
+    le_trans (leb→le (key f (to_bits f y)) (key f (to_bits f (of_bits f b))) (subst T (le_by_key f y (of_bits f b) u (of_bits-fits f b) n (is_number b B)) h)) (le_of_eq (key_of b B)) in
+    record { number = n; from_low = (by_keys (top f) (to_bits f y) P l r).0; to_high = (by_keys (top f) (to_bits f y) P l r).1 }
   where
     small : (m : ℕ) → m ≤ ones f * hid f → m < top f
     small m k = lt_of_le_of_lt k (inf_under_top f)
@@ -62,28 +59,8 @@ pattern_within f a b y P A B u g h =
     key_of : (m : ℕ) → m ≤ ones f * hid f → key f (to_bits f (of_bits f m)) ≡ top f + m
     key_of m k = ap (key f) (to_bits-of_bits f m (twice m (top f) (small m k)) (is_number m k)) ∙ key_clear f m (small m k)
 
-    keyed_low : T (not (is_nan y)) → top f + a ≤ key f (to_bits f y)
-    keyed_low n = le_trans (le_of_eq (sym (key_of a A))) (leb→le (key f (to_bits f (of_bits f a))) (key f (to_bits f y)) (subst T (le_by_key f (of_bits f a) y (of_bits-fits f a) u (is_number a A) n) g))
-
-    keyed_high : T (not (is_nan y)) → key f (to_bits f y) ≤ top f + b
-    keyed_high n = le_trans (leb→le (key f (to_bits f y)) (key f (to_bits f (of_bits f b))) (subst T (le_by_key f y (of_bits f b) u (of_bits-fits f b) n (is_number b B)) h)) (le_of_eq (key_of b B))
-
-    no : (t m k : ℕ) → t ≤ m → t + a ≤ k → k ≡ 2 * t - m → ⊥
-    no t m k h l e = omega arith
-
-    go : T (not (is_nan y)) → top f + a ≤ key f (to_bits f y) → key f (to_bits f y) ≤ top f + b → (s : Bool) → (T s → top f ≤ to_bits f y) → (T (not s) → to_bits f y < top f) → Between f a b y
-    go n l r true set clear = absurd (no (top f) (to_bits f y) (key f (to_bits f y)) (set tt) l (key_set f (to_bits f y) (set tt)))
-    go n l r false set clear = record {
-      number = n;
-      from_low = off (top f) a (to_bits f y) (key f (to_bits f y)) (key_clear f (to_bits f y) (clear tt)) l;
-      to_high = under_off (top f) b (to_bits f y) (key f (to_bits f y)) (key_clear f (to_bits f y) (clear tt)) r;
-    }
-      where
-        off : (t a m k : ℕ) → k ≡ t + m → t + a ≤ k → a ≤ m
-        off t a m k e h = omega arith
-
-        under_off : (t b m k : ℕ) → k ≡ t + m → k ≤ t + b → m ≤ b
-        under_off t b m k e h = omega arith
+    by_keys : (t n : ℕ) → 0 < a → t + a ≤ cond (leb t n) (2 * t - n) (t + n) → cond (leb t n) (2 * t - n) (t + n) ≤ t + b → (a ≤ n) × (n ≤ b)
+    by_keys t n P l r = grind (arith, nat_tests)
 
 -- ---- the size of the value of a pattern whose field is below i + 1: at most 2 ^ (prec - 1 + i) units
 pub units_of_pattern : (f : Format) (i m : ℕ) → Finite f m → m < suc i * hid f → UnitsAtMost f (2 ^ (prec f - 1 + i)) (of_bits f m)

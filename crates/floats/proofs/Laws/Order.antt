@@ -1,12 +1,12 @@
 -- The order of values. Rounding keeps it, whatever the signs, subnormal results and overflow to an infinity included (`rounding_mono`). Of two
 -- values whose sign is clear the order is that of their patterns, as numbers (`pattern_mono`, `order_of_patterns`, `values_of_patterns`).
 -- Assumes nothing.
-use Rattle.std.proofs.Common.{◌≡◌, ℕ, zero, suc, ◌+◌, ◌*◌, ◌^◌, ◌<◌, ◌≤◌, Bool, true, false, not, ◌&&◌, ◌||◌, T, eqb, ltb, leb, ◌⊎◌, ℤ, pos, sym, refl, ap, ◌∙◌, subst, inl, inr, le_trans, le_of_eq, le_of_lt, mul-le-mul_right, mul_assoc, le_antisymm, mul-pos, zero-add, zero-mul, mul_right_comm, le_of_mul-le-mul_right, arith, eqb→eq, ltb→lt, lt→ltb, leb→le, nltb→le, pow_pos}
-use lib.Dec.{nleb→lt}
+use Rattle.std.proofs.Common.{◌≡◌, ℕ, ◌+◌, ◌*◌, ◌^◌, ◌<◌, ◌≤◌, Bool, true, false, not, ◌&&◌, ◌||◌, T, eqb, ltb, ◌⊎◌, ℤ, pos, sym, refl, ap, ◌∙◌, subst, inl, inr, le_trans, le_of_eq, le_of_lt, mul-le-mul_right, mul_assoc, le_antisymm, mul-pos, zero-add, zero-mul, mul_right_comm, le_of_mul-le-mul_right, arith, pow_pos}
+use Rattle.std.proofs.lemmas.Bool.Decides.{nat_tests}
 use lib.Ieee.{Float, nan, inf, fin, Format, binary32, binary64, prec, low, up, down, round, neg, le, fits, hid, ones, to_bits, of_bits}
 use lib.Ieee.Bits.{of_bits-fits, of_bits-to_bits}
 use lib.Ieee.Exact.{HasValue}
-use lib.Ieee.Fits.{and_i, and_l, eq→eqb, down_pos, two, two-le_pos}
+use lib.Ieee.Fits.{down_pos, two, two-le_pos}
 use lib.Ieee.Order.{round_mono, le_of_values}
 use lib.Ieee.Scale.{round_same, overflow}
 use Rattle.floats.proofs.Laws.Place.{place, place_mono, place_of_overflow, bits_of_inf}
@@ -14,17 +14,16 @@ use Rattle.floats.proofs.Laws.Units.{HasSign, round_has_sign, exponent, in_units
 use Rattle.floats.proofs.Laws.Magnitude.{Finite, read_magnitude}
 use Rattle.floats.proofs.Laws.Rounding.{round_holds, neg_round, fits_under}
 
--- ---- what `le` says of two finite values whose sign is clear
+-- ---- tests joined
 pub or_split : (a b : Bool) → T (a || b) → T a ⊎ T b
-or_split true b t = inl tt
-or_split false b t = inr t
+or_split a b t = grind arith
 
-le_says : (a b : ℕ) → T (ltb a b || (eqb a b && true)) → a ≤ b
-le_says a b t = go (or_split (ltb a b) (eqb a b && true) t)
-  where
-    go : T (ltb a b) ⊎ T (eqb a b && true) → a ≤ b
-    go (inl u) = le_of_lt (ltb→lt a b u)
-    go (inr u) = le_of_eq (eqb→eq a b (and_l (eqb a b) true u))
+pub or_l : (a b : Bool) → T a → T (a || b)
+or_l a b t = grind arith
+
+-- what `le` says of two finite values whose sign is clear
+pub at_most : (a b : ℕ) → T (ltb a b || (eqb a b && true)) → a ≤ b
+at_most a b t = grind (arith, nat_tests)
 
 -- ---- values whose sign is clear, an infinity among them, and no NaN
 abbrev pub clear : Float → Bool
@@ -76,16 +75,12 @@ pattern_mono f =
     (le_of_eq (place_of_overflow f ∙ sym (bits_of_inf f false ∙ zero-add (ones f * hid f))))))
     (λ m e n d t u h.
     le_trans (le_of_eq (bits_of_clear f m e t))
-    (le_trans (place_mono (prec f) (m * 2 ^ exponent (low f) e) (n * 2 ^ exponent (low f) d) (two-le_pos (prec f) (two f)) (units_le f m e n d t u (le_says (m * up e * down d) (n * up d * down e) h)))
+    (le_trans (place_mono (prec f) (m * 2 ^ exponent (low f) e) (n * 2 ^ exponent (low f) d) (two-le_pos (prec f) (two f)) (units_le f m e n d t u (at_most (m * up e * down d) (n * up d * down e) h)))
     (le_of_eq (sym (bits_of_clear f n d u)))))
 
 -- one of two is at most the other
 either_le : (a b : ℕ) → (a ≤ b) ⊎ (b ≤ a)
-either_le a b = go (leb a b) (leb→le a b) (nleb→lt a b)
-  where
-    go : (t : Bool) → (T t → a ≤ b) → (T (not t) → b < a) → (a ≤ b) ⊎ (b ≤ a)
-    go true h k = inl (h tt)
-    go false h k = inr (le_of_lt (k tt))
+either_le a b = grind (arith, nat_tests)
 
 pub le_either : (x y : Float) → T (clear x) → T (clear y) → T (le x y) ⊎ T (le y x)
 unfolding le
@@ -106,41 +101,21 @@ order_of_patterns f x y p q t u h = go (le_either x y p q)
     go (inr k) = subst (λ (z : Float). T (le x z)) (same k) (subst (λ (z : Float). T (le z x)) (sym (same k)) k)
 
 -- ---- the other signs
-pub or_l : (a b : Bool) → T a → T (a || b)
-or_l true b t = tt
-or_l false b t = absurd t
-
-or_r : (a b : Bool) → T b → T (a || b)
-or_r true b t = tt
-or_r false b t = t
-
-flip_eq : (a b : ℕ) (s : Bool) → T (eqb a b && s) → T (eqb b a && s)
-flip_eq a b s t = subst (λ (x : ℕ). T (eqb x a && s)) (eqb→eq a b (and_l (eqb a b) s t)) (subst (λ (x : ℕ). T (eqb a x && s)) (sym (eqb→eq a b (and_l (eqb a b) s t))) t)
-
 -- b ≤ a, as the test has it for two negative values
 pub le_below : (a b : ℕ) → b ≤ a → T (ltb b a || (eqb a b && true))
-le_below a b h = go (ltb b a) (nltb→le b a)
-  where
-    go : (u : Bool) → (T (not u) → a ≤ b) → T (u || (eqb a b && true))
-    go true g = tt
-    go false g = and_i (eqb a b) true (eq→eqb (le_antisymm (g tt) h)) tt
+le_below a b h = grind (arith, nat_tests)
 
 -- turned round by the sign
 le_neg : (x y : Float) → T (clear x) → T (clear y) → T (le x y) → T (le (neg y) (neg x))
 unfolding le neg
-le_neg =
-    clear_both (λ (x y : Float). T (le x y) → T (le (neg y) (neg x))) (λ h. tt) (λ n d h. absurd h) (λ m e h. tt)
-    (λ m e n d h. go (m * up e * down d) (n * up d * down e) (or_split (ltb (m * up e * down d) (n * up d * down e)) (eqb (m * up e * down d) (n * up d * down e) && true) h))
+le_neg = clear_both (λ (x y : Float). T (le x y) → T (le (neg y) (neg x))) (λ h. tt) (λ n d h. absurd h) (λ m e h. tt) (λ m e n d h. turned (m * up e * down d) (n * up d * down e) h)
   where
-    go : (a b : ℕ) → T (ltb a b) ⊎ T (eqb a b && true) → T (ltb a b || (eqb b a && true))
-    go a b (inl u) = or_l (ltb a b) (eqb b a && true) u
-    go a b (inr u) = or_r (ltb a b) (eqb b a && true) (flip_eq a b true u)
+    turned : (a b : ℕ) → T (ltb a b || (eqb a b && true)) → T (ltb a b || (eqb b a && true))
+    turned a b h = grind (arith, nat_tests)
 
 -- a value that is not above zero is at most one that is not below it
 pub under_zero : (a b : ℕ) → T (ltb 0 (a + b) || (eqb a b && (false || eqb a 0)))
-under_zero zero zero = tt
-under_zero zero (suc b) = or_l (ltb 0 (0 + suc b)) (eqb 0 (suc b) && (false || eqb 0 0)) (lt→ltb 0 (0 + suc b) (omega arith))
-under_zero (suc a) b = or_l (ltb 0 (suc a + b)) (eqb (suc a) b && (false || eqb (suc a) 0)) (lt→ltb 0 (suc a + b) (omega arith))
+under_zero a b = grind (arith, nat_tests)
 
 le_across : (x y : Float) → T (clear x) → T (clear y) → T (le (neg x) y)
 unfolding le neg

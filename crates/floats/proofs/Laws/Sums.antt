@@ -1,20 +1,20 @@
 -- The sum of two finite values is the exact sum, rounded once, whatever the signs (`add_rounded`). So it is a number (`add_number`), addition is commutative (`add_turned`) and keeps
 -- the order (`sums_mono`, `add_mono`), that of patterns too (`sum_patterns_mono`), and what is left of an f64 over its nearest whole value is at most a half (`whole_distance`).
 -- Assumes nothing.
-use Rattle.std.proofs.Common.{◌≡◌, ℕ, zero, suc, ◌+◌, ◌-◌, ◌*◌, ◌<◌, ◌≤◌, Bool, true, false, cond, not, ◌&&◌, ◌||◌, T, eqb, ltb, ◌⊎◌, ℤ, negsuc, sym, refl, ap, ◌∙◌, subst, inl, inr, le_trans, le_of_eq, lt_of_le_of_lt, le_of_lt, mul-le-mul_right, zero-lt-suc, mul_comm, add-mul, add_comm, mul-pos, zero-mul, mul-one, mul_right_comm, not-le_of_lt, arith, lit<, eqb→eq, ltb→lt, nltb→le}
-use mathlib.Core.Bool.{beq}
+use Rattle.std.proofs.Common.{◌≡◌, ℕ, zero, suc, ◌+◌, ◌-◌, ◌*◌, ◌<◌, ◌≤◌, Bool, true, false, cond, not, ◌||◌, T, ltb, ℤ, negsuc, sym, refl, ap, ◌∙◌, subst, le_trans, le_of_eq, lt_of_le_of_lt, le_of_lt, mul-le-mul_right, zero-lt-suc, mul_comm, add-mul, add_comm, mul-pos, zero-mul, mul-one, mul_right_comm, not-le_of_lt, arith, lit<, ltb→lt, nltb→le}
 use native.Mathlib.Nat.{mul-mul-mul_comm}
-use lib.Dec.{eqb_refl}
 use lib.Ieee.{Float, nan, inf, fin, Format, binary64, up, down, round, neg, sum, add, sub, le, below, level, fits, is_nan, hid, ones, to_bits, of_bits}
 use lib.Ieee.Exact.{HasValue}
-use lib.Ieee.Fits.{and_l, and_r, down_pos, add-fits}
+use lib.Ieee.Fits.{down_pos, add-fits}
 use lib.Ieee.Nearest.{closest, closest_mono}
 use lib.Ieee.Scale.{finite}
+use Rattle.std.proofs.lemmas.Bool.Decides.{nat_tests}
+use Rattle.std.proofs.lemmas.Float.{le_refl}
 use Rattle.floats.specs.Narrowing.{nearest_whole}
 use Rattle.floats.proofs.Laws.Units.{round_number}
 use Rattle.floats.proofs.Laws.Closest.{closest_above, closest_below, closest_one}
 use Rattle.floats.proofs.Laws.Magnitude.{Finite, below_infinity}
-use Rattle.floats.proofs.Laws.Order.{or_split, clear, pattern_mono, round_clear, AtMost, rounding_mono, values_of_patterns}
+use Rattle.floats.proofs.Laws.Order.{clear, pattern_mono, round_clear, AtMost, rounding_mono, values_of_patterns}
 use Rattle.floats.proofs.Laws.Whole.{nearest_whole_exact}
 
 -- ---- a number with a sign, as what it has above zero less what it has below
@@ -85,18 +85,10 @@ rounded_mono {f} {p} {n} {c} {x} {q} {r} {d} {y} R S C D h =
 
 -- ---- what `le` says of two finite values
 in_order : (s : Bool) (a : ℕ) (t : Bool) (b : ℕ) → T (below s a t b || level s a t b) → above s a + under t b ≤ above t b + under s a
-in_order false a false b h = go (or_split (ltb a b) (level false a false b) h)
-  where
-    go : T (ltb a b) ⊎ T (level false a false b) → a + 0 ≤ b + 0
-    go (inl u) = omega (arith, ltb→lt a b u)
-    go (inr u) = omega (arith, eqb→eq a b (and_l (eqb a b) true u))
-in_order true a true b h = go (or_split (ltb b a) (level true a true b) h)
-  where
-    go : T (ltb b a) ⊎ T (level true a true b) → 0 + b ≤ 0 + a
-    go (inl u) = omega (arith, ltb→lt b a u)
-    go (inr u) = omega (arith, eqb→eq a b (and_l (eqb a b) true u))
-in_order true a false b h = omega arith
-in_order false a true b h = omega (arith, eqb→eq a b (and_l (eqb a b) (eqb a 0) h), eqb→eq a 0 (and_r (eqb a b) (eqb a 0) h))
+in_order false a false b h = grind (arith, nat_tests)
+in_order true a true b h = grind (arith, nat_tests)
+in_order true a false b h = grind (arith, nat_tests)
+in_order false a true b h = grind (arith, nat_tests)
 
 pub above_times : (s : Bool) (a k : ℕ) → above s (a * k) ≡ above s a * k
 above_times false a k = refl
@@ -194,24 +186,19 @@ add_turned f (fin s m e) (fin t n d) =
     sum_turned f s (m * up e * down d) t (n * up d * down e) (down e * down d) ∙ ap (λ (c : ℕ). sum f t (n * up d * down e) s (m * up e * down d) c) (mul_comm (down e) (down d))
 
 -- ---- the order
-le_itself : (x : Float) → T (finite x) → T (le x x)
-unfolding le
-le_itself nan p = absurd p
-le_itself (inf s) p = absurd p
-le_itself (fin s m e) p = go s (below s (m * up e * down e) s (m * up e * down e)) (eqb (m * up e * down e) (m * up e * down e)) (eqb_refl (m * up e * down e))
-  where
-    go : (s b l : Bool) → T l → T (b || l && (beq s s || eqb (m * up e * down e) 0))
-    go s true l t = tt
-    go s false false t = absurd t
-    go true false true t = tt
-    go false false true t = tt
+-- a finite value is no NaN
+pub finite_number : (x : Float) → T (finite x) → T (not (is_nan x))
+unfolding is_nan
+finite_number nan p = p
+finite_number (inf s) p = tt
+finite_number (fin s m e) p = tt
 
 -- with one of the two the same
 pub add_mono : (f : Format) (c x y : Float) → T (finite c) → T (finite x) → T (finite y) → T (le x y) → T (le (add f c x) (add f c y))
-add_mono f c x y p q r h = sums_mono f c c x y p p q r (le_itself c p) h
+add_mono f c x y p q r h = sums_mono f c c x y p p q r (le_refl c (finite_number c p)) h
 
 pub add_mono_left : (f : Format) (c x y : Float) → T (finite c) → T (finite x) → T (finite y) → T (le x y) → T (le (add f x c) (add f y c))
-add_mono_left f c x y p q r h = sums_mono f x y c c q r p p h (le_itself c p)
+add_mono_left f c x y p q r h = sums_mono f x y c c q r p p h (le_refl c (finite_number c p))
 
 -- the patterns of the sums of two values and a third, each with a clear sign
 sum_clear : (f : Format) (m c : ℕ) → Finite f m → Finite f c → T (clear (add f (of_bits f m) (of_bits f c)))

@@ -1,5 +1,6 @@
 -- A choice by a test whose outcome is known. Assumes nothing.
-use Rattle.std.proofs.Common.{◌≡◌, ℕ, Bool, true, false, cond, ◌&&◌, ltb, leb, sym, refl, ap, ◌∙◌, le-ltb, lt-ltb, leb-false, leb-true}
+use Rattle.std.proofs.Common.{◌≡◌, ℕ, Bool, true, false, cond, ◌&&◌, ltb, leb, sym, ap, arith}
+use Rattle.std.proofs.lemmas.Bool.Decides.{nat_tests}
 use borrow.Author.Tests.{not-true, not-false}
 use lib.Ieee.{Float, eq, ne}
 
@@ -12,15 +13,11 @@ second b x y e = ap (λ (t : Bool). cond t x y) (sym e)
 
 -- a choice by m ≥ n is the choice by m < n with its two sides the other way round
 pub swapped {ℓ} : {A : Type ℓ} (m n : ℕ) (x y : A) → cond (ltb m n) y x ≡ cond (leb n m) x y
-swapped m n x y = go (leb n m) refl
-  where
-    go : (t : Bool) → leb n m ≡ t → cond (ltb m n) y x ≡ cond (leb n m) x y
-    go true e = sym (second (ltb m n) y x (le-ltb m n (leb-true n m e))) ∙ first (leb n m) x y e
-    go false e = sym (first (ltb m n) y x (lt-ltb m n (leb-false n m e))) ∙ second (leb n m) x y e
+swapped m n x y = grind (arith, nat_tests)
 
 -- of three tests, where the outcome of the first two is known
 pub joined : (a b c x y : Bool) → a ≡ x → b ≡ y → (x && y && c) ≡ (a && b && c)
-joined a b c x y e d = ap (λ (z : Bool). z && y && c) (sym e) ∙ ap (λ (z : Bool). a && z && c) (sym d)
+joined a b c x y e d = cc
 
 -- of floats, that they differ is that they are not equal
 pub differ_no : (x y : Float) → ne x y ≡ true → eq x y ≡ false

@@ -1,7 +1,6 @@
 -- Why widening by the pattern is right: the pattern of a normal f32, with 29 zeros more and the exponent's field more by 896, is the f64's
 -- (`widened`), and the sign's bit is moved from place 31 to place 63 (`widened_signed`). Assumes nothing.
-use Rattle.std.proofs.Common.{◌≡◌, ℕ, suc, ◌+◌, ◌-◌, ◌*◌, ◌/◌, ◌%◌, ◌^◌, ◌<◌, ◌≤◌, Bool, true, false, not, T, leb, ◌⊎◌, sym, refl, ap, ◌∙◌, inl, inr, le_trans, le_of_eq, le_of_lt, arith, leb→le, pow_pos, pow-add}
-use lib.Dec.{nleb→lt}
+use Rattle.std.proofs.Common.{◌≡◌, ℕ, suc, ◌+◌, ◌-◌, ◌*◌, ◌/◌, ◌%◌, ◌^◌, ◌<◌, ◌≤◌, false, ◌⊎◌, sym, refl, ap, ◌∙◌, inl, inr, le_trans, le_of_eq, le_of_lt, arith, pow_pos, pow-add}
 use lib.Ieee.{binary32, binary64, neg, of_bits}
 use lib.Ieee.Bits.{of_bits-fits}
 use lib.Ieee.Fits.{fits_widens}
@@ -60,17 +59,7 @@ module _ (n : ℕ) (b : n < 2 ^ 32) (g : 0x00800000 ≤ n % 0x80000000) (h : n %
 
   -- the sign is clear or set
   sign : (n - m ≡ 0) ⊎ (n - m ≡ 0x80000000)
-  sign = go (leb 0x80000000 n) (leb→le 0x80000000 n) (nleb→lt 0x80000000 n)
-    where
-      go : (s : Bool) → (T s → 0x80000000 ≤ n) → (T (not s) → n < 0x80000000) → (n - m ≡ 0) ⊎ (n - m ≡ 0x80000000)
-      go true set _ = inr (over (set tt))
-        where
-          over : 0x80000000 ≤ n → n - n % 0x80000000 ≡ 0x80000000
-          over k = omega arith
-      go false _ clear = inl (under (clear tt))
-        where
-          under : n < 0x80000000 → n - n % 0x80000000 ≡ 0
-          under k = omega arith
+  sign = grind arith
 
   -- and without it the pattern is the one that `widened` has
   unsigned : (m s : ℕ) → m < 0x7f800000 → (s ≡ 0) ⊎ (s ≡ 0x80000000) → wide m s % 0x8000000000000000 ≡ m * 0x20000000 + 0x3800000000000000

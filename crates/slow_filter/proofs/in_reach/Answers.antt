@@ -1,5 +1,5 @@
 -- `in_reach` meets its contract: its tests are the definition's. Assumes nothing.
-use mathlib.Core.Path.{refl}
+use Rattle.std.proofs.Common.{refl}
 use lib.Ieee.{of_bits, neg}
 use Rattle.slow_filter.specs.Plain.{in_reach}
 use Rattle.slow_filter.proofs.in_reach.Goals as goal

@@ -1,4 +1,5 @@
 -- `rounded_subnormal` meets its contract: the scaled pattern is from 2^-151 to 2^-126, so that what its sum with 2^-97 has over that of 2^-97 is an f32's pattern. Assumes nothing.
+use Rattle.std.proofs.Common.{None}
 use mathlib.Core.Path.{◌≡◌, sym, ap, ◌∙◌, subst}
 use mathlib.Core.Bool.{Bool, not}
 use Prim.Native.Nat.{ℕ, ◌+◌, ◌-◌, ◌*◌, ◌%◌, ◌^◌, ◌≤◌, ◌<◌}
@@ -6,7 +7,8 @@ use native.Mathlib.Nat.{lt_of_lt_of_le}
 use native.Mathlib.Omega.{arith}
 use borrow.Author.Tests.{eq-eqb, ne_eqb}
 use lib.Dec.{T, lit≤}
-use lib.IntN.{ℤ, pos, negsuc}
+use mir.Syntax.{w64}
+use mir.ValLaws.{to_z-of_z}
 use lib.Ieee.{binary32, binary64, is_nan, nan_bits, to_bits}
 use lib.Ieee.Bits.{nan_bits_is, of_bits-fits}
 use Rattle.floats.specs.Operations.{◌⊕◌, f64}
@@ -15,25 +17,16 @@ use Rattle.floats.proofs.Laws.Magnitude.{below_infinity}
 use Rattle.floats.proofs.Laws.Nan.{number_of_below}
 use Rattle.floats.proofs.Laws.Narrow.{low_finite, low_sum_number, low_sum_over, low_pattern, pattern_fits, pattern_number}
 use Rattle.floats.proofs.Laws.Tests.{first, second}
-use Rattle.fast_path.specs.Scaling.{scaled, Within}
-use Rattle.fast_path.proofs.Lifted.{within_read, within_cast}
-use Rattle.slow_filter.specs.declared.SlowFound.TheVariants.{Unsure}
-use Rattle.slow_filter.specs.Subnormal.{BelowNormal, subnormal_sum, rounded_subnormal, subnormal_found}
+use Rattle.fast_path.specs.Scaling.{scaled}
+use Rattle.slow_filter.specs.Subnormal.{subnormal_sum, rounded_subnormal, subnormal_found}
 use Rattle.slow_filter.proofs.Subnormal.{Below, scaled_below}
 use Rattle.slow_filter.proofs.rounded_subnormal.Goals as goal
 use Rattle.slow_filter.proofs.rounded_subnormal.Goals.{After-scaled-m}
 
 -- ---- the scaled pattern
-within : (k : ℤ) → BelowNormal k → Within 1000 k
-within (pos n) h = absurd h
-within (negsuc n) h = omega (arith, h.1)
-
-pub scaled-m-requires : goal.scaled-m-requires
-scaled-m-requires c = within_cast c.args.k (within c.args.k c.requires.below_normal)
-
 module _ (c : After-scaled-m) where
   scaled_is : c.scaled-m.result ≡ scaled c.args.w c.args.k
-  scaled_is = c.scaled-m.ensures ∙ ap (scaled c.args.w) (within_read c.args.k (within c.args.k c.requires.below_normal))
+  scaled_is = c.scaled-m.ensures ∙ ap (scaled c.args.w) (to_z-of_z w64 c.args.k c.ranges.k)
 
   range : Below c.scaled-m.result
   range = subst Below (sym scaled_is) (scaled_below c.args.w c.args.k (record { low = c.requires.w_least; high = c.requires.w_below }) c.requires.below_normal)
@@ -50,10 +43,6 @@ module _ (c : After-scaled-m) where
     where
       go : (w : ℕ) → w < 897 * 2 ^ 52 → w + 33554432 < 898 * 2 ^ 52
       go w h = omega arith
-
-pub float_from_bits-offset : goal.float_from_bits-offset
-unfolding nan_bits
-float_from_bits-offset c = tt
 
 pub overflow_sub-low : goal.overflow_sub-low
 overflow_sub-low c =
@@ -103,11 +92,11 @@ overflow_cast-result c = record { fits = result_small _ (less (goal.at.overflow_
 
 pub returns-then-low-high : goal.returns-then-low-high
 unfolding subnormal_found rounded_subnormal subnormal_sum
-returns-then-low-high c = first _ _ Unsure (eq-eqb _ _ c.if-low-high.true) ∙ ap rounded_subnormal (scaled_is (goal.at.returns-then-low-high c).After-scaled-m)
+returns-then-low-high c = first _ _ None (eq-eqb _ _ c.if-low-high.true) ∙ ap rounded_subnormal (scaled_is (goal.at.returns-then-low-high c).After-scaled-m)
 
-pub returns : goal.returns
+pub returns-else-low-high : goal.returns-else-low-high
 unfolding subnormal_found rounded_subnormal subnormal_sum
-returns c = second _ _ Unsure (ne_eqb _ _ c.if-low-high.false) ∙ ap rounded_subnormal (scaled_is (goal.at.returns c).After-scaled-m)
+returns-else-low-high c = second _ _ None (ne_eqb _ _ c.if-low-high.false) ∙ ap rounded_subnormal (scaled_is (goal.at.returns-else-low-high c).After-scaled-m)
 
 pub float_from_bits-low : goal.float_from_bits-low
 float_from_bits-low c = low_number _ (less (goal.at.float_from_bits-low c).After-scaled-m)

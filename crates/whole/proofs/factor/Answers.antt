@@ -1,5 +1,5 @@
 -- `factor` meets its contract: where n is odd the difference is added to the pattern of 1 and wraps back to that of s, and where n is even nothing is. Assumes nothing.
-use Rattle.std.proofs.Common.{◌≡◌, ℕ, ◌+◌, ◌*◌, ◌%◌, ◌^◌, ◌<◌, Bool, true, false, cond, not, T, eqb, sym, refl, ap, ◌∙◌, subst, mul-zero, mul-one, arith, rules, eqb-true}
+use Rattle.std.proofs.Common.{◌≡◌, ℕ, ◌+◌, ◌*◌, ◌%◌, ◌^◌, Bool, true, false, cond, not, T, eqb, sym, refl, ap, ◌∙◌, subst, mul-zero, mul-one, arith, eqb-true}
 use borrow.Author.Tests.{eqb-false}
 use lib.Ieee.{Float, binary64, fits, is_nan, nan_bits, to_bits, of_bits}
 use lib.Ieee.Bits.{nan_bits_is, of_bits-to_bits}
@@ -8,16 +8,6 @@ use Rattle.special.specs.Special.{one}
 use Rattle.floats.proofs.Laws.Tests.{first, second}
 use Rattle.whole.proofs.Squaring.{factor}
 use Rattle.whole.proofs.factor.Goals as goal
-
--- a bit times a u64 is one
-no_more : (m b : ℕ) → m < 2 ^ 64 → m * (b % 2) < 2 ^ 64
-no_more m b h = go (eqb (b % 2) 1) refl
-  where
-    go : (t : Bool) → eqb (b % 2) 1 ≡ t → m * (b % 2) < 2 ^ 64
-    go true e = subst (λ (k : ℕ). m * k < 2 ^ 64) (sym (eqb-true (b % 2) 1 e)) (omega (arith, h))
-    go false e =
-        let z : b % 2 ≡ 0 = omega (arith, eqb-false (b % 2) 1 e) in
-        subst (λ (k : ℕ). m * k < 2 ^ 64) (sym z) (omega arith)
 
 -- the value of the pattern
 module _ (s : Float) (fit : T (fits binary64 s)) (n m r : ℕ) (less : (m + 0x3ff0000000000000) % 2 ^ 64 ≡ to_bits binary64 s) (added : r ≡ (0x3ff0000000000000 + m * (n % 2)) % 2 ^ 64) where
@@ -43,9 +33,6 @@ module _ (s : Float) (fit : T (fits binary64 s)) (n m r : ℕ) (less : (m + 0x3f
       go : (t : Bool) → T (not (is_nan (cond t s one)))
       go true = h
       go false = tt
-
-pub overflow_mul-chosen : goal.overflow_mul-chosen
-overflow_mul-chosen c = record { fits = no_more _ _ (search rules) }
 
 pub float_from_bits-result : goal.float_from_bits-result
 float_from_bits-result c = number _ (passes _ c.well_formed.0.1) _ _ _ c.wrapping_sub_u64-more.ensures.value c.wrapping_add_u64.ensures.value c.requires

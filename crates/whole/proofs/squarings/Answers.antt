@@ -29,9 +29,6 @@ loop-turn-preserved c =
       (square_number binary64 turn.square turn.invariant.1.0, λ turns e. ap (λ (a : Float). factors turns (turn.left / 2) square (turn.acc ⊗ a)) c.factor-acc-in-loop-turn.ensures ∙ turn.invariant.1.1 (suc turns) (omega (arith, e))),
     )
 
-pub factor-acc-requires : goal.factor-acc-requires
-factor-acc-requires c = c.requires
-
 pub factor-acc-requires-in-loop-turn : goal.factor-acc-requires-in-loop-turn
 factor-acc-requires-in-loop-turn c = square_number binary64 c.loop-turn.square c.loop-turn.invariant.1.0
 

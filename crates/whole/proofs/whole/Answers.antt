@@ -21,11 +21,7 @@ use Rattle.whole.proofs.Tiny.{exponent, power_way}
 use Rattle.whole.proofs.whole.Goals as goal
 use Rattle.whole.proofs.whole.Goals.{Start}
 
--- a test counts as 0 or 1, and with it the exponent stays a u32
-one_at_most : (b : Bool) → bool_byte b ≤ 1
-one_at_most true = omega arith
-one_at_most false = omega arith
-
+-- a test counts as 0 or 1, so that with it the exponent stays a u32, and the sign's bit too
 no_more : (n : ℕ) (b : Bool) → n < 2 ^ 32 → n * (1 - bool_byte b) < 2 ^ 32
 no_more n true h = omega arith
 no_more n false h = omega (arith, h)
@@ -91,15 +87,15 @@ module _
 
 pub float_to_bits-tiny : goal.float_to_bits-tiny
 unfolding of_bits
-float_to_bits-tiny c = number_x (x (goal.at.float_to_bits-tiny c).Start) (y (goal.at.float_to_bits-tiny c).Start) c.requires
+float_to_bits-tiny c = number_x c.args.x c.args.y c.requires
 
 pub float_to_bits-ny : goal.float_to_bits-ny
 unfolding of_bits
-float_to_bits-ny c = number_y (x (goal.at.float_to_bits-ny c).Start) (y (goal.at.float_to_bits-ny c).Start) c.requires
+float_to_bits-ny c = number_y c.args.x c.args.y c.requires
 
 pub float_from_bits-n : goal.float_from_bits-n
 unfolding of_bits
-float_from_bits-n c = magnitude_number binary32 (y (goal.at.float_from_bits-n c).Start) (y_fits (goal.at.float_from_bits-n c).Start) (number_y (x (goal.at.float_from_bits-n c).Start) (y (goal.at.float_from_bits-n c).Start) c.requires)
+float_from_bits-n c = magnitude_number binary32 c.args.y (passes _ c.well_formed.1.0.1) (number_y c.args.x c.args.y c.requires)
 
 pub float_to_int-n : goal.float_to_int-n
 unfolding of_bits
@@ -109,13 +105,9 @@ pub float_to_float-x : goal.float_to_float-x
 unfolding of_bits
 float_to_float-x c = widens (goal.at.float_to_float-x c).Start
 
-pub overflow_sub-tiny : goal.overflow_sub-tiny
-unfolding of_bits
-overflow_sub-tiny c = one_at_most (leb (to_bits binary32 (x (goal.at.overflow_sub-tiny c).Start) % 2 ^ 31) 0x3100_0000)
-
 pub overflow_mul-n : goal.overflow_mul-n
 unfolding of_bits
-overflow_mul-n c = record { fits = no_more _ (leb (to_bits binary32 (x (goal.at.overflow_mul-n c).Start) % 2 ^ 31) 0x3100_0000) (to_unsigned-lt 32 _) }
+overflow_mul-n c = record { fits = no_more _ (leb (to_bits binary32 c.args.x % 2 ^ 31) 0x3100_0000) (to_unsigned-lt 32 _) }
 
 pub squarings-acc-requires : goal.squarings-acc-requires
 unfolding of_bits
@@ -123,7 +115,7 @@ squarings-acc-requires c = sum_number (goal.at.squarings-acc-requires c).Start
 
 pub overflow_sub-below : goal.overflow_sub-below
 unfolding of_bits
-overflow_sub-below c = one_bit _ (to_bits-lt binary32 (y (goal.at.overflow_sub-below c).Start) (y_fits (goal.at.overflow_sub-below c).Start))
+overflow_sub-below c = one_bit _ (to_bits-lt binary32 c.args.y (passes _ c.well_formed.1.0.1))
 
 pub factor-requires : goal.factor-requires
 unfolding of_bits
@@ -133,10 +125,10 @@ pub factor-requires-2 : goal.factor-requires-2
 unfolding of_bits
 factor-requires-2 c = acc_number (goal.at.factor-requires-2 c).Start _ c.squarings-acc.ensures
 
-pub narrow_branchless-requires : goal.narrow_branchless-requires
+pub narrow_number-requires : goal.narrow_number-requires
 unfolding of_bits
-narrow_branchless-requires c = narrowable (goal.at.narrow_branchless-requires c).Start _ c.squarings-acc.ensures _ _ c.factor.ensures c.factor-2.ensures
+narrow_number-requires c = narrowable (goal.at.narrow_number-requires c).Start _ c.squarings-acc.ensures _ _ c.factor.ensures c.factor-2.ensures
 
 pub returns : goal.returns
 unfolding of_bits
-returns c = c.narrow_branchless.ensures ∙ answer (goal.at.returns c).Start _ c.squarings-acc.ensures _ _ c.factor.ensures c.factor-2.ensures
+returns c = c.narrow_number.ensures ∙ answer (goal.at.returns c).Start _ c.squarings-acc.ensures _ _ c.factor.ensures c.factor-2.ensures

@@ -1,33 +1,56 @@
--- `narrow_magnitude` meets its contract: the two ways are `low_pattern` and `normal_magnitude`. Assumes nothing.
-use Rattle.std.proofs.Common.{ℕ, ◌+◌, ◌-◌, ◌/◌, ◌%◌, sym, ◌∙◌, le_of_lt, arith}
-use lib.Ieee.{binary64, nan_bits}
+-- `narrow_magnitude` meets its contract: the pattern that is taken is `low_pattern` or `normal_magnitude`, where the difference does not wrap. Assumes nothing.
+use Rattle.std.proofs.Common.{◌≡◌, ℕ, ◌+◌, ◌-◌, ◌*◌, ◌/◌, ◌%◌, ◌^◌, ◌<◌, ◌≤◌, min, false, not, T, negsuc, sym, refl, ap, ◌∙◌, subst, arith, rules}
+use lib.Ieee.{Float, fin, binary32, binary64, add, is_nan, nan_bits, to_bits, of_bits}
+use Rattle.floats.specs.Narrowing.{narrowed}
+use Rattle.floats.proofs.Laws.Compare.{number_of_bits}
 use Rattle.floats.proofs.Laws.Nan.{number_of_below}
-use Rattle.floats.proofs.Laws.Place.{min_left, min_right}
-use Rattle.floats.proofs.Laws.Narrow.{low_finite, low_pattern, low_sum_over, low_sum_number, normal_magnitude}
+use Rattle.floats.proofs.Laws.Narrow.{low_finite, low_pattern, low_sum_over, normal_magnitude}
+use Rattle.floats.proofs.Laws.Sums.{add_number}
 use Rattle.floats.proofs.narrowing.narrow_magnitude.Goals as goal
 
+within : (m : ℕ) → m ≤ 0x7ff0000000000000 → m % 2 ^ 63 ≤ 0x7ff0000000000000
+within m h = omega (arith, h)
+
+-- the sum with 2^-97 is a number for every m
+two_to_minus_97 : (of_bits binary64 0x39e0000000000000 ≡ fin false 1 (negsuc 96)) × T (not (nan_bits binary64 0x39e0000000000000))
+unfolding of_bits nan_bits
+two_to_minus_97 = (refl, tt)
+
+sum_number : (m : ℕ) → m ≤ 0x7ff0000000000000 → T (not (is_nan (add binary64 (of_bits binary64 m) (of_bits binary64 0x39e0000000000000))))
+sum_number m h =
+    subst (λ (x : Float). T (not (is_nan (add binary64 (of_bits binary64 m) x)))) (sym two_to_minus_97.0)
+    (add_number binary64 (of_bits binary64 m) false 1 (negsuc 96) (number_of_bits binary64 m (within m h)))
+
+-- a difference that does not wrap
+difference : (r a b : ℕ) → r < 2 ^ 64 → b ≤ a → (r + b) % 2 ^ 64 ≡ a → r ≡ a - b
+difference r a b h l e = omega (arith, h, l, e)
+
+-- the digits that are kept, and that they reach the exponent's field
+abbrev kept : ℕ → ℕ
+kept m = (m + 0xfff_ffff + m / 0x2000_0000 % 2) / 0x2000_0000
+
+reached : (m : ℕ) → 0x3810_0000_0000_0000 ≤ m → 0x1_c000_0000 ≤ kept m
+reached m h = omega (arith, h)
+
+low_is : (m r : ℕ) → m < 897 * 2 ^ 52 → r < 2 ^ 64 → (r + 0x39e0000000000000) % 2 ^ 64 ≡ to_bits binary64 (add binary64 (of_bits binary64 m) (of_bits binary64 0x39e0000000000000))
+    → r ≡ to_bits binary32 (narrowed (of_bits binary64 m))
+low_is m r h l e = difference r _ _ l (low_sum_over m (low_finite m h) h) e ∙ sym (low_pattern m (low_finite m h) h)
+
+module _ (m r : ℕ) (small : m ≤ 0x7ff0000000000000) (large : 0x3810_0000_0000_0000 ≤ m) (l : r < 2 ^ 64) (e : (r + 0x1_c000_0000) % 2 ^ 64 ≡ kept m) where
+  high_is : min r 0x7f80_0000 ≡ to_bits binary32 (narrowed (of_bits binary64 m))
+  high_is = ap (λ (p : ℕ). min p 0x7f80_0000) (difference r (kept m) 0x1_c000_0000 l (reached m large) e) ∙ sym (normal_magnitude m small large)
+
 pub float_from_bits-sum : goal.float_from_bits-sum
-float_from_bits-sum c = number_of_below binary64 c.args.m (omega arith)
+float_from_bits-sum c = number_of_below binary64 c.args.m (within c.args.m c.requires)
 
-pub float_from_bits-sum-then-m-lt4039728865751334912 : goal.float_from_bits-sum-then-m-lt4039728865751334912
-unfolding nan_bits
-float_from_bits-sum-then-m-lt4039728865751334912 c = tt
+pub float_from_bits-sum-2 : goal.float_from_bits-sum-2
+float_from_bits-sum-2 c = two_to_minus_97.1
 
-pub float_to_bits-result : goal.float_to_bits-result
-float_to_bits-result c = low_sum_number c.args.m (low_finite c.args.m c.if-m-lt4039728865751334912.true)
-
-pub overflow_sub-result : goal.overflow_sub-result
-overflow_sub-result c = low_sum_over c.args.m (low_finite c.args.m c.if-m-lt4039728865751334912.true) c.if-m-lt4039728865751334912.true
+pub float_to_bits-sum : goal.float_to_bits-sum
+float_to_bits-sum c = sum_number c.args.m c.requires
 
 pub returns-then-m-lt4039728865751334912 : goal.returns-then-m-lt4039728865751334912
-returns-then-m-lt4039728865751334912 c = sym (low_pattern c.args.m (low_finite c.args.m c.if-m-lt4039728865751334912.true) c.if-m-lt4039728865751334912.true)
-
--- the pattern before it is cut at the infinity's
-abbrev uncut : ℕ → ℕ
-uncut m = (m + 0xfff_ffff + m / 0x2000_0000 % 2) / 0x2000_0000 - 0x1_c000_0000
-
-pub returns-then-p-lt2139095040 : goal.returns-then-p-lt2139095040
-returns-then-p-lt2139095040 c = min_left (uncut c.args.m) 0x7f80_0000 (le_of_lt c.if-p-lt2139095040.true) ∙ sym (normal_magnitude c.args.m c.requires c.if-m-lt4039728865751334912.false)
+returns-then-m-lt4039728865751334912 c = low_is c.args.m _ c.if-m-lt4039728865751334912.true (search rules) c.wrapping_sub_u64-low.ensures.value
 
 pub returns : goal.returns
-returns c = min_right (uncut c.args.m) 0x7f80_0000 c.if-p-lt2139095040.false ∙ sym (normal_magnitude c.args.m c.requires c.if-m-lt4039728865751334912.false)
+returns c = c.min.ensures ∙ high_is c.args.m _ c.requires c.if-m-lt4039728865751334912.false (search rules) c.wrapping_sub_u64-high.ensures.value

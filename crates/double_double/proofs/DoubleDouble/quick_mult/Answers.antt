@@ -1,7 +1,0 @@
--- `quick_mult` meets its contract: it goes on from what `from_exact_mult` gives by the definition's operations. Assumes nothing.
-use Rattle.double_double.specs.DoubleDouble.{quick_mult}
-use Rattle.double_double.proofs.DoubleDouble.quick_mult.Goals as goal
-
-pub returns : goal.returns
-unfolding quick_mult
-returns c = cc

@@ -1,7 +1,0 @@
--- `compoundf_exp2_poly2` meets its contract, operation by operation. Assumes nothing.
-use Rattle.slow_path.specs.Slow.{compoundf_exp2_poly2}
-use Rattle.slow_path.proofs.compoundf_exp2_poly2.Goals as goal
-
-pub returns : goal.returns
-unfolding compoundf_exp2_poly2
-returns c = cc

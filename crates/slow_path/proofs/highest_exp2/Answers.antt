@@ -1,7 +1,0 @@
--- `highest_exp2` meets its contract, operation by operation. Assumes nothing.
-use Rattle.slow_path.specs.Slow.{highest_exp2}
-use Rattle.slow_path.proofs.highest_exp2.Goals as goal
-
-pub returns : goal.returns
-unfolding highest_exp2
-returns c = cc
