@@ -1,8 +1,9 @@
 -- Two evaluations side by side: where the terms are so far from each other, the sums are (`sum_apart`), the differences (`differences_apart`), the products (`product_apart`), and `dd_fmla` beside the plain
 -- product and sum (`fmla_plain`, `fmla_aside`). The numbers are worked out from those of the terms, so that with literals a whole evaluation is compared by
 -- computing. Assumes nothing.
+use Rattle.std.proofs.Common.{rules}
 use mathlib.Core.Path.{◌≡◌, subst}
-use mathlib.Core.Bool.{Bool, true, ◌&&◌, false}
+use mathlib.Core.Bool.{Bool, ◌&&◌}
 use Prim.Native.Nat.{ℕ, ◌+◌, ◌*◌, ◌/◌, ◌^◌, ◌≤◌, ◌<◌}
 use native.Mathlib.Nat.{le_refl, le_trans, le_of_eq, le_of_mul-le-mul_right, mul-le-mul, mul-le-mul_right, add-le-add}
 use native.Mathlib.Omega.{arith}
@@ -135,9 +136,8 @@ one_way {π} pz nz pw nw P N Q O E k l D π0 f g h e =
 pub product_apart : {μ ν π A B K L M N : ℕ} {x y u v : Float} → ProductScale μ ν π → Apart μ A x u → Apart ν B y v → Bound μ K x → Bound ν L y → Bound μ M u → Bound ν N v → T (ok K && ok L && ok M && ok N)
     → Apart π (product_apart_k A B K L M N) (x ⊗ y) (u ⊗ v)
 product_apart {μ} {ν} {π} {A} {B} {K} {L} {M} {N} {x} {y} {u} {v} t a b p q r s g =
-    let o = four (ok K) (ok L) (ok M) (ok N) g in
-    let z = off_product x y (x ⊗ y) (mul_near p.number q.number (mul_limit t p q o.0 o.1)) in
-    let w = off_product u v (u ⊗ v) (mul_near r.number s.number (mul_limit t r s o.2 o.3)) in
+    let z = off_product x y (x ⊗ y) (mul_near p.number q.number (mul_limit t p q (search rules) (search rules))) in
+    let w = off_product u v (u ⊗ v) (mul_near r.number s.number (mul_limit t r s (search rules) (search rules))) in
     let E = A * μ * mag y + B * ν * mag u in
     let size = in_all E (mag x * mag y) (mag u * mag v) (A * L + B * M) (K * L) (M * N) (S * π) (distance_size A B L M μ ν π S (mag y) (mag u) q.size r.size t.le) (size_product K L μ ν π S (mag x) (mag y) p.size q.size t.le)
     (size_product M N μ ν π S (mag u) (mag v) r.size s.size t.le) in
@@ -149,13 +149,6 @@ product_apart {μ} {ν} {π} {A} {B} {K} {L} {M} {N} {x} {y} {u} {v} t a b p q r
           (minus (plus x) (less x) (plus y) (less y) (plus u) (less u) (plus v) (less v) (A * μ) (B * ν) (exact_apart (less x) (plus x) (plus y) (less y) (less u) (plus u) (plus v) (less v) (A * μ) (B * ν) (turn (less x) (plus u) (plus x) (less u) (A * μ) a.under) (turn (less u) (plus x) (plus u) (less x) (A * μ) a.over) b.over b.under)) size);
     }
   where
-    four : (a b c d : Bool) → T (a && b && c && d) → T a × T b × T c × T d
-    four true true true true h = (tt, tt, tt, tt)
-    four false _ c d h = elim h [ ]
-    four true false c d h = elim h [ ]
-    four true true false d h = elim h [ ]
-    four true true true false h = elim h [ ]
-
     in_all : (E k l a b c s : ℕ) → E ≤ a * s → k ≤ b * s → l ≤ c * s → E * 2 ^ 53 + (k + l) ≤ (a * 2 ^ 53 + (b + c)) * s
     in_all E k l a b c s f g h = omega arith
 
@@ -192,22 +185,5 @@ aside_ok K L C M N G = fmla_ok K L C && ok K && ok L && ok M && ok N && ok (prod
 pub fmla_aside : {μ ν π A B D K L C M N G : ℕ} {x y c u v d : Float} → ProductScale μ ν π → Apart μ A x u → Apart ν B y v → Apart π D c d → Bound μ K x → Bound ν L y → Bound π C c → Bound μ M u → Bound ν N v → Bound π G d
     → T (aside_ok K L C M N G) → Apart π (fmla_aside_k A B D K L C M N G) (dd_fmla x y c) (u ⊗ v ⊕ d)
 fmla_aside {K = K} {L = L} {C = C} {M = M} {N = N} {G = G} t a b e p q r u v w g =
-    let o = seven (fmla_ok K L C) (ok K) (ok L) (ok M) (ok N) (ok (product_k K L + C)) (ok (product_k M N + G)) g in
-    apart_through (fmla_plain t p q r o.0) (sum_apart (product_apart t a b p q u v (four (ok K) (ok L) (ok M) (ok N) o.1 o.2 o.3 o.4)) e (mul_bound t p q o.1 o.2) r (mul_bound t u v o.3 o.4) w o.5 o.6)
-  where
-    seven : (a b c d e f g : Bool) → T (a && b && c && d && e && f && g) → T a × T b × T c × T d × T e × T f × T g
-    seven true true true true true true true h = (tt, tt, tt, tt, tt, tt, tt)
-    seven false _ _ _ _ f _ h = elim h [ ]
-    seven true false _ _ _ f _ h = elim h [ ]
-    seven true true false _ _ f _ h = elim h [ ]
-    seven true true true false _ f _ h = elim h [ ]
-    seven true true true true false f _ h = elim h [ ]
-    seven true true true true true false _ h = elim h [ ]
-    seven true true true true true true false h = elim h [ ]
-
-    four : (a b c d : Bool) → T a → T b → T c → T d → T (a && b && c && d)
-    four true true true true h i j k = tt
-    four false _ _ _ h i j k = elim h [ ]
-    four true false _ _ h i j k = elim i [ ]
-    four true true false _ h i j k = elim j [ ]
-    four true true true false h i j k = elim k [ ]
+    apart_through (fmla_plain t p q r (search rules))
+    (sum_apart (product_apart t a b p q u v (search rules)) e (mul_bound t p q (search rules) (search rules)) r (mul_bound t u v (search rules) (search rules)) w (search rules) (search rules))

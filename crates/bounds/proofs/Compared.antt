@@ -1,5 +1,6 @@
 -- The order of two finite f64s in units of 2^-1074 (`le_units`, `le_of_units`); values between two positive numbers on the scale of 1 (`Positive`), through a product
 -- and a sum; the patterns of such values (`positive_bits`, `bits_from_two`, `bits_around_one`), which from 1/2 to 2 are no further from each other than the values (`bits_apart`). Assumes nothing.
+use Rattle.std.proofs.Common.{rules}
 use mathlib.Core.Path.{◌≡◌, refl, sym, ap, ap₂, ◌∙◌, subst}
 use mathlib.Core.Logic.{◌⊎◌, inl, inr}
 use mathlib.Core.Bool.{Bool, true, false, not, ◌&&◌, ◌||◌}
@@ -11,7 +12,7 @@ use lib.Pow.{pow_pos, shr_mono}
 use lib.IntN.{ℤ}
 use lib.Ieee.{Float, nan, inf, fin, binary64, up, down, le, lt, below, level, fits, to_bits, is_nan}
 use lib.Ieee.Scale.{finite}
-use lib.Ieee.Fits.{and_i, and_l, and_r, eq→eqb, down_pos}
+use lib.Ieee.Fits.{and_i, eq→eqb, down_pos}
 use Rattle.floats.specs.Operations.{◌⊕◌, ◌⊗◌}
 use Rattle.floats.proofs.Laws.Place.{size_exact, place_below, place_above}
 use Rattle.floats.proofs.Laws.Compare.{key, not_leb, lt_by_key, le_by_key}
@@ -198,12 +199,11 @@ between a b x = within b x && eqb (less x) 0 && leb (a * 2 ^ 1021) (plus x)
 pub tested_positive : (a b : ℕ) (x : Float) → T (between a b x) → Positive a b x
 unfolding S
 tested_positive a b x t =
-    let h = and_l (within b x && eqb (less x) 0) (leb (a * 2 ^ 1021) (plus x)) t in
-    let bound = tested b x (and_l (within b x) (eqb (less x) 0) h) in
+    let bound = tested b x (search rules) in
     record {
       number = bound.number;
-      clear = eqb→eq (less x) 0 (and_r (within b x) (eqb (less x) 0) h);
-      least = leb→le (a * 2 ^ 1021) (plus x) (and_r (within b x && eqb (less x) 0) (leb (a * 2 ^ 1021) (plus x)) t);
+      clear = eqb→eq (less x) 0 (search rules);
+      least = leb→le (a * 2 ^ 1021) (plus x) (search rules);
       most = le_trans (le-add_right (plus x) (less x)) bound.size;
     }
 
@@ -369,13 +369,6 @@ lt_false p q h = lt_is p q ∙ ap not (le_true q p h)
 -- and back
 pub units_of_le : {x y : Float} → Number x → Number y → le x y ≡ true → plus x + less y ≤ plus y + less x
 units_of_le {x} {y} p q e = le_units x y p q (subst T (sym e) tt)
-
-pub units_of_lt : {x y : Float} → Number x → Number y → lt x y ≡ true → plus x + less y < plus y + less x
-units_of_lt {x} {y} p q e = gt_of_not_le y x q p (not_back (le y x) (sym (lt_is p q) ∙ e))
-  where
-    not_back : (b : Bool) → not b ≡ true → b ≡ false
-    not_back true h = sym h
-    not_back false h = refl
 
 pub units_of_not_lt : {x y : Float} → Number x → Number y → lt x y ≡ false → plus y + less x ≤ plus x + less y
 units_of_not_lt {x} {y} p q e = units_of_le q p (not_back (le y x) (sym (lt_is p q) ∙ e))

@@ -2,15 +2,15 @@
 -- 2^53 × μ is 1. An operation on such values gives one whose number is worked out from theirs (`sum_k`, `product_k`, `fast_k`, `full_k`, `dekker_k`): with
 -- literals for K a whole evaluation is bounded by computing. A scale may be relative too, as 2^53 × μ = |z|: a product of a value on the scale of 1 and one on
 -- the scale of z is on the scale of z. Assumes nothing.
+use Rattle.std.proofs.Common.{rules}
 use mathlib.Core.Path.{◌≡◌, refl, sym, ap, ap₂, ◌∙◌, subst}
-use mathlib.Core.Bool.{Bool, true, ◌&&◌, false}
+use mathlib.Core.Bool.{Bool, ◌&&◌}
 use Prim.Native.Nat.{ℕ, zero, suc, ◌+◌, ◌*◌, ◌/◌, ◌^◌, ◌≤◌, ◌<◌}
 use native.Mathlib.Nat.{le_refl, le_trans, le_of_eq, le_of_mul-le-mul_right, mul-le-mul, mul_comm, mul_assoc, mul_right_comm, mul-mul-mul_comm, mul-le-mul_right, mul-le-mul_left, add-le-add, add-mul, div-add-mod', mod-lt, le_of_lt}
 use native.Mathlib.Omega.{arith}
 use lib.Dec.{T, leb, leb→le, lit≤, lit<}
 use lib.Pow.{pow_pos}
 use lib.Ieee.{Float, binary64, neg, sub, fits}
-use lib.Ieee.Fits.{and_l, and_r}
 use lib.Ieee.Scale.{finite}
 use Rattle.floats.specs.Operations.{◌⊕◌, ◌⊖◌, ◌⊗◌}
 use Rattle.double_double.specs.declared.DoubleDouble.{DoubleDouble}
@@ -273,20 +273,14 @@ quick_ok K k L l = ok K && ok k && ok L && ok l && ok (product_k K l + product_k
 pub quick_bounds : {μ ν π K k L l : ℕ} {x y : DoubleDouble} → ProductScale μ ν π → Bounds μ K k x → Bounds ν L l y → T (quick_ok K k L l) → Bounds π (product_k K L) (quick_lo_k K k L l) (quick_mult x y)
 unfolding quick_mult
 quick_bounds {μ} {ν} {π} {K} {k} {L} {l} {x} {y} t p q g =
-    let o = six (ok K) (ok k) (ok L) (ok l) (ok (product_k K l + product_k k L)) (ok (dekker_k K L + sum_k (product_k K l) (product_k k L))) g in
+    let o = parts K k L l g in
     let c = dekker_bounds t p.hi q.hi o.0 o.2 in
     let tl1 = mul_bound t p.hi q.lo o.0 o.3 in
     let tl2 = mul_bound t p.lo q.hi o.1 o.2 in
     record { hi = c.hi; lo = add_bound c.lo (add_bound tl1 tl2 o.4) o.5 }
   where
-    six : (a b c d e f : Bool) → T (a && b && c && d && e && f) → T a × T b × T c × T d × T e × T f
-    six true true true true true true h = (tt, tt, tt, tt, tt, tt)
-    six false b c d e f h = elim h [ ]
-    six true false c d e f h = elim h [ ]
-    six true true false d e f h = elim h [ ]
-    six true true true false e f h = elim h [ ]
-    six true true true true false f h = elim h [ ]
-    six true true true true true false h = elim h [ ]
+    parts : (K k L l : ℕ) → T (quick_ok K k L l) → T (ok K) × T (ok k) × T (ok L) × T (ok l) × T (ok (product_k K l + product_k k L)) × T (ok (dekker_k K L + sum_k (product_k K l) (product_k k L)))
+    parts K k L l g = search rules
 
 abbrev pub quick_f64_lo_k : ℕ → ℕ → ℕ → ℕ
 quick_f64_lo_k K k L = sum_k (dekker_k K L) (product_k k L)
@@ -295,16 +289,8 @@ pub quick_f64_bounds : {μ ν π K k L : ℕ} {x : DoubleDouble} {y : Float} →
     → Bounds π (product_k K L) (quick_f64_lo_k K k L) (quick_mult_f64 x y)
 unfolding quick_mult_f64
 quick_f64_bounds {μ} {ν} {π} {K} {k} {L} {x} {y} t p q g =
-    let o = four (ok K) (ok k) (ok L) (ok (dekker_k K L + product_k k L)) g in
-    let c = dekker_bounds t p.hi q o.0 o.2 in
-    record { hi = c.hi; lo = add_bound c.lo (mul_bound t p.lo q o.1 o.2) o.3 }
-  where
-    four : (a b c d : Bool) → T (a && b && c && d) → T a × T b × T c × T d
-    four true true true true h = (tt, tt, tt, tt)
-    four false b c d h = elim h [ ]
-    four true false c d h = elim h [ ]
-    four true true false d h = elim h [ ]
-    four true true true false h = elim h [ ]
+    let c = dekker_bounds t p.hi q (search rules) (search rules) in
+    record { hi = c.hi; lo = add_bound c.lo (mul_bound t p.lo q (search rules) (search rules)) (search rules) }
 
 -- ---- `dd_fmla`: on the scale of the product and of c
 -- lo of the full add
@@ -318,15 +304,7 @@ abbrev pub fmla_ok : ℕ → ℕ → ℕ → Bool
 fmla_ok K L C = ok K && ok L && ok (product_k K L + C) && ok (dekker_k K L + full_k (product_k K L) C) && ok (fmla_lo_k K L C + sum_k (product_k K L) C)
 
 pub fmla_parts : (K L C : ℕ) → T (fmla_ok K L C) → T (ok K) × T (ok L) × T (ok (product_k K L + C)) × T (ok (dekker_k K L + full_k (product_k K L) C)) × T (ok (fmla_lo_k K L C + sum_k (product_k K L) C))
-fmla_parts K L C g = five (ok K) (ok L) (ok (product_k K L + C)) (ok (dekker_k K L + full_k (product_k K L) C)) (ok (fmla_lo_k K L C + sum_k (product_k K L) C)) g
-  where
-    five : (a b c d e : Bool) → T (a && b && c && d && e) → T a × T b × T c × T d × T e
-    five true true true true true h = (tt, tt, tt, tt, tt)
-    five false b c d e h = elim h [ ]
-    five true false c d e h = elim h [ ]
-    five true true false d e h = elim h [ ]
-    five true true true false e h = elim h [ ]
-    five true true true true false h = elim h [ ]
+fmla_parts K L C g = search rules
 
 pub fmla_bound : {μ ν π K L C : ℕ} {x y c : Float} → ProductScale μ ν π → Bound μ K x → Bound ν L y → Bound π C c → T (fmla_ok K L C) → Bound π (fmla_k K L C) (dd_fmla x y c)
 unfolding dd_fmla full_add_f64
@@ -342,13 +320,11 @@ within K x = fits binary64 x && finite x && leb (mag x) (K * 2 ^ 1021)
 
 pub tested : (K : ℕ) (x : Float) → T (within K x) → Bound S K x
 unfolding S
-tested K x t =
-    let h = and_l (fits binary64 x && finite x) (leb (mag x) (K * 2 ^ 1021)) t in
-    record {
-      scale = unit;
-      number = record { held = and_l (fits binary64 x) (finite x) h; plain = and_r (fits binary64 x) (finite x) h };
-      size = leb→le (mag x) (K * 2 ^ 1021) (and_r (fits binary64 x && finite x) (leb (mag x) (K * 2 ^ 1021)) t);
-    }
+tested K x t = record {
+  scale = unit;
+  number = record { held = search rules; plain = search rules };
+  size = leb→le (mag x) (K * 2 ^ 1021) (search rules);
+}
 
 -- ---- a difference that is known to be small, whatever its terms
 pub sub_small_bound : {μ : ℕ} {x y : Float} (K : ℕ) → Scale μ → Number x → Number y → Small (plus x + less y) (less x + plus y) (K * μ) → T (ok K) → Bound μ (K + (K / 2 ^ 53 + 1)) (x ⊖ y)

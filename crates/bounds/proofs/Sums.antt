@@ -51,9 +51,6 @@ difference_small x y d h = go (plus x) (less x) (plus y) (less y) h
 pub add_mag : {x y : Float} (d : ℕ) → Number x → Number y → mag x + mag y ≤ d → d ≤ limit → mag (x ⊕ y) * 2 ^ 53 ≤ d * 2 ^ 53 + d
 add_mag {x} {y} d p q h l = close_mag d (add_near d p q (sum_small x y d h) l) (sum_small x y d h)
 
-pub sub_mag : {x y : Float} (d : ℕ) → Number x → Number y → mag x + mag y ≤ d → d ≤ limit → mag (x ⊖ y) * 2 ^ 53 ≤ d * 2 ^ 53 + d
-sub_mag {x} {y} d p q h l = close_mag d (sub_near d p q (difference_small x y d h) l) (difference_small x y d h)
-
 -- ---- a sum r in two parts: hi is a + b but for d / 2^53, and lo at most c × d / 2^53
 pub record InParts (a b : Float) (d c : ℕ) (r : DoubleDouble) : Type 0 where
   pub hi : Close (plus a + plus b) (less a + less b) d r.hi

@@ -7,12 +7,9 @@
 // proofs/Power.antt, proofs/Near.antt).
 #![tactic(auto)]
 
-ghost use Rattle.std.specs.Prelude.{◌≡◌, ◌*◌, ◌^◌, ◌<◌, ◌≤◌, true, false, T, pos};
-ghost use Rattle.std.specs.Float.{binary32, fin};
-ghost use Rattle.std.specs.Float.Ieee.{fits, le, lt};
+ghost use Rattle.std.specs.Prelude.{◌≡◌, ◌*◌, ◌^◌, ◌<◌, ◌≤◌, T};
 ghost use Rattle.std.specs.Float.Ieee.Scale.{finite};
 ghost use Rattle.floats.specs.Operations.{◌⊗◌};
-ghost use Rattle.special.specs.Special.{minus_one};
 ghost use Rattle.fast_path.specs.Fast.{compoundf_log2p1_fast};
 ghost use Rattle.filter.specs.Plain as spec;
 ghost use Rattle.filter.specs.Right.{Right};

@@ -12,7 +12,8 @@ use std::num::f32_to_bits_with_nan;
 // How many lines are read at most.
 const LINES: u32 = 100_000;
 
-// The value of a hexadecimal digit; another byte counts as 0.
+// The value of a hexadecimal digit; another byte counts as 0. By hand, since the library's `to_digit`
+// takes capital letters too.
 fn digit(b: u8) -> u32
     ensures { result < 16 }
 {

@@ -3,7 +3,7 @@
 use mathlib.Core.Path.{◌≡◌, refl, sym, ap, ◌∙◌}
 use mathlib.Core.Logic.{◌⊎◌, inl, inr}
 use Prim.Native.Nat.{ℕ, ◌+◌, ◌*◌, ◌/◌, ◌^◌, ◌≤◌, ◌<◌}
-use native.Mathlib.Nat.{le_refl, le_trans, le_of_eq, mul_assoc, mul-le-mul_right, add-le-add}
+use native.Mathlib.Nat.{le_trans, le_of_eq, mul_assoc, mul-le-mul_right}
 use native.Mathlib.Omega.{arith}
 use lib.Dec.{T, leb, leb→le, lit≤, lit<}
 use lib.Ieee.{Float, binary32, fits, le, lt}
@@ -26,7 +26,8 @@ use Rattle.filter.proofs.Logarithm.{LogBeside, log_beside}
 use Rattle.filter.proofs.Times.{Single}
 use Rattle.slow_filter.specs.Plain.{kept_from}
 use Rattle.slow_filter.proofs.Logarithms.{Beside, logarithms, on_one_scale}
-use Rattle.slow_filter.proofs.LogOwn.{LogOwn}
+use Rattle.slow_filter.proofs.LogOwn.{LogOwn, own_bound}
+use Rattle.slow_filter.proofs.Fine.{onto_apart}
 
 pub record AccurateBeside (t : DoubleDouble) (t' : Float) : Type 0 where
   pub number : Number t.hi
@@ -52,13 +53,6 @@ sized p n q m (inr e) g h = omega arith
 -- on the scale of k: 2^53 is k, but for less than 1
 on_scale : (a b m : ℕ) → 2 ^ 110 ≤ m → a * 2 ^ 53 ≤ b * 2 ^ 53 + 108193 * m → a ≤ b + 108194 * (m / 2 ^ 53)
 on_scale a b m g h = omega arith
-
--- k itself is on its own scale
-own_bound : (k : Float) → 2 ^ 110 ≤ mag k → Number k → Scale (mag k / 2 ^ 53) → Bound (mag k / 2 ^ 53) (2 ^ 53 + 1) k
-own_bound k h n s = record { scale = s; number = n; size = over (mag k) h }
-  where
-    over : (m : ℕ) → 2 ^ 110 ≤ m → m ≤ (2 ^ 53 + 1) * (m / 2 ^ 53)
-    over m h = omega arith
 
 module _ (x : Float) (f : T (fits binary32 x)) (p : T (finite x)) (h : T (lt minus_one x)) (l : T (le kept_from (absolute x))) where
   abbrev fast : Float
@@ -133,10 +127,6 @@ module _ (x : Float) (f : T (fits binary32 x)) (p : T (finite x)) (h : T (lt min
   pub kept_own : LogOwn accurate plain
   kept_own = record { large = large; sized = beside.plain_size; near = high_apart; parts = bounds }
 
--- another scale, where D × μ is at most E × ν
-apart_onto : {μ ν D E : ℕ} {a b : Float} → Apart μ D a b → D * μ ≤ E * ν → Apart ν E a b
-apart_onto d h = record { over = le_trans d.over (add-le-add (le_refl _) h); under = le_trans d.under (add-le-add (le_refl _) h) }
-
 -- ---- times y
 -- the unit for small products: 2^-75
 unfoldable fine : ℕ
@@ -179,7 +169,7 @@ module _ {accurate : DoubleDouble} {k y : Float} (o : LogOwn accurate k) (s : Si
         let t = parts product in
         record {
           number = t.hi.number;
-          near = apart_onto (high product) (on_one (product_apart_k 108194 0 (2 ^ 54) (2 ^ 53) (2 ^ 53 + 1) (2 ^ 53)) (2 ^ 24) tt);
+          near = onto_apart (high product) (on_one (product_apart_k 108194 0 (2 ^ 54) (2 ^ 53) (2 ^ 53 + 1) (2 ^ 53)) (2 ^ 24) tt);
           low = onto S (2 ^ 23) unit t.lo (on_one (quick_f64_lo_k (2 ^ 54) (2 ^ 15 + 1) (2 ^ 53)) (2 ^ 23) tt);
         }
 
@@ -209,6 +199,6 @@ module _ {accurate : DoubleDouble} {k y : Float} (o : LogOwn accurate k) (s : Si
         let t = parts small_product in
         record {
           number = t.hi.number;
-          near = apart_onto (high small_product) (on_fine (product_apart_k 108194 0 (2 ^ 54) (2 ^ 53) (2 ^ 53 + 1) (2 ^ 53)) 2 tt);
+          near = onto_apart (high small_product) (on_fine (product_apart_k 108194 0 (2 ^ 54) (2 ^ 53) (2 ^ 53 + 1) (2 ^ 53)) 2 tt);
           low = onto S 1 unit t.lo (on_fine (quick_f64_lo_k (2 ^ 54) (2 ^ 15 + 1) (2 ^ 53)) 1 tt);
         }

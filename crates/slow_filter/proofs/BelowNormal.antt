@@ -8,7 +8,7 @@ use lib.Dec.{T, lit<}
 use lib.IntN.{ℤ, pos, negsuc, neg_ℤ}
 use mir.Syntax.{w64}
 use mir.Val.{to_z, of_z}
-use mir.ValLaws.{to_z-of_z}
+use Rattle.fast_path.proofs.Lifted.{within_read}
 use lib.Ieee.{Float, nan, inf, fin, binary64, up, down, fits, le, to_signed}
 use lib.Ieee.Exact.{HasValue}
 use lib.Ieee.Fits.{down_pos}
@@ -72,8 +72,8 @@ below_normal {t} c i g b h = go t b.number.held b.number.plain (subst T (sym h) 
 
 -- such a k is read back from the bits of an i64
 pub k_read : (k : ℤ) → BelowNormal k → to_z w64 (of_z w64 k) ≡ k
-k_read (pos n) h = absurd h
-k_read (negsuc n) h = to_z-of_z w64 (negsuc n) (record { sfits = go n h.1 })
+k_read k h = within_read k (small k h)
   where
-    go : (n : ℕ) → n < 150 → n < 2 ^ 63
-    go n h = omega arith
+    small : (k : ℤ) → BelowNormal k → Within 1000 k
+    small (pos n) h = absurd h
+    small (negsuc n) h = omega (arith, h.1)

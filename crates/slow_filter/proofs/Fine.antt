@@ -40,7 +40,8 @@ bound_fine {K} b = onto fine (K * 2 ^ 16) fine_scale b (le_of_eq (to_fine K))
 pub bound_one : {K : ℕ} {x : Float} → Bound fine K x → Bound S (K / 2 ^ 16 + 1) x
 bound_one {K} b = onto S (K / 2 ^ 16 + 1) unit b (to_one K)
 
-onto_apart : {μ ν K M : ℕ} {x y : Float} → Apart μ K x y → K * μ ≤ M * ν → Apart ν M x y
+-- a distance on another scale
+pub onto_apart : {μ ν K M : ℕ} {x y : Float} → Apart μ K x y → K * μ ≤ M * ν → Apart ν M x y
 onto_apart a h = record { over = le_trans a.over (add-le-add (le_refl _) h); under = le_trans a.under (add-le-add (le_refl _) h) }
 
 pub apart_fine : {K : ℕ} {x y : Float} → Apart S K x y → Apart fine (K * 2 ^ 16) x y

@@ -10,6 +10,7 @@ use lib.Dec.{T, leb, ltb, leb→le, nleb→lt, ltb→lt, nltb→le, lit≤}
 use lib.Pow.{pow-add, pow_mono, shl_lt}
 use lib.IntN.{pos, negsuc}
 use lib.Ieee.{Float, nan, inf, fin, binary32, fits, le, lt}
+use lib.Ieee.Bits.{is_true}
 use lib.Ieee.Scale.{finite}
 use Rattle.floats.specs.Operations.{◌⊕◌}
 use Rattle.floats.specs.Narrowing.{narrowed}
@@ -21,7 +22,7 @@ use Rattle.double_double.specs.DoubleDouble.{from_exact_add}
 use Rattle.special.specs.Special.{one, minus_one}
 use Rattle.slow_path.specs.Slow.{one_plus}
 use Rattle.slow_path.proofs.LowPart.{one_is_1, one_mag, sum_limit, one_plus_near}
-use Rattle.slow_path.proofs.OnePlusParts.{Above, above_of, absolute_units, Parted, parted_low, parted_high}
+use Rattle.slow_path.proofs.OnePlusParts.{Above, above_of, absolute_units, size_least, Parted, parted_low, parted_high}
 use Rattle.bounds.proofs.Values.{per_one, per_one_pos, plus, less, mag, mag_of, one_side, Number}
 use Rattle.bounds.proofs.Operation.{Same}
 use Rattle.bounds.proofs.Sums.{fast_sum}
@@ -107,11 +108,13 @@ sums {x} n g = go (one_side x)
         let f = few g.A g.B g.A_few g.B_few in
         both g.A g.B w.0 w.1 f.2 f.3
 
-nil_of : {z : Float} → Same z (fin false 0 (pos 0)) → Nil z
+-- what is the same as 0 is
+pub nil_of : {z : Float} → Same z (fin false 0 (pos 0)) → Nil z
 nil_of s = record { number = s.number; is = ap₂ ◌+◌ s.plus_same s.less_same }
 
 -- ---- the two forms of 1 + x, where x is not lost
-abbrev tiny : Float
+-- 2^-53
+abbrev pub tiny : Float
 tiny = fin false 1 (negsuc 52)
 
 tiny_is : Number tiny × Number kept_from × (plus tiny + less kept_from ≤ plus kept_from + less tiny) × (2 ^ 1045 ≤ plus kept_from) × (less kept_from ≡ 0)
@@ -126,12 +129,7 @@ module _ (x : Float) (f : T (fits binary32 x)) (p : T (finite x)) (h : T (lt min
   at_least = le_units kept_from (absolute x) tiny_is.1 (absolute_units x above.number).0 l
 
   pub least_size : 2 ^ 1045 ≤ mag x
-  least_size =
-      let w = absolute_units x above.number in
-      go (plus kept_from) (less kept_from) (plus (absolute x)) (less (absolute x)) (mag x) (2 ^ 1045) tiny_is.3 tiny_is.4 w.1 w.2 at_least
-    where
-      go : (p n q m x s : ℕ) → s ≤ p → n ≡ 0 → q ≡ x → m ≡ 0 → p + m ≤ q + n → s ≤ x
-      go p n q m x s a b c d g = omega arith
+  least_size = le_trans tiny_is.3 (size_least kept_from x tiny_is.1 tiny_is.4 above.number (is_true _ l))
 
   not_lost : le tiny (absolute (narrowed x)) ≡ true
   not_lost =

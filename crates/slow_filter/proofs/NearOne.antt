@@ -1,11 +1,10 @@
 -- Next to 1 the slow path's answer is what the short polynomial rounds to, where that is clear of every midpoint of two f32s (`near_one`): the two patterns are 6 from each other at most, and a
 -- pattern that is taken is more than 8 from every midpoint. Where t is so small that the slow path does not work the power out, both are 1. Assumes nothing.
-use Rattle.std.proofs.Common.{Option, Some, None}
-use mathlib.Core.Path.{◌≡◌, refl, sym, ap, ◌∙◌, subst}
-use mathlib.Core.Bool.{Bool, true, false, cond}
+use Rattle.std.proofs.Common.{Some}
+use mathlib.Core.Path.{◌≡◌, refl, sym, ap, ◌∙◌}
+use mathlib.Core.Bool.{Bool, true, false}
 use Prim.Native.Nat.{ℕ, ◌+◌, ◌-◌, ◌*◌, ◌/◌, ◌%◌, ◌^◌, ◌≤◌, ◌<◌, min}
 use native.Mathlib.Omega.{arith}
-use lib.Dec.{T, ltb, ltb→lt}
 use lib.Ieee.{Float, binary32, binary64, le, to_bits, of_bits}
 use lib.Ieee.Bits.{of_bits-to_bits}
 use Rattle.floats.specs.Operations.{◌⊕◌, ◌⊗◌, f64}
@@ -20,7 +19,9 @@ use Rattle.bounds.proofs.Scales.{S, Bound}
 use Rattle.bounds.proofs.Distances.{Apart, bound_near}
 use Rattle.bounds.proofs.Apart.{apart_turned}
 use Rattle.filter.proofs.Power.{Unscaled}
-use Rattle.filter.specs.Midpoints.{narrowed_pattern}
+use Rattle.std.proofs.lemmas.Option.{cond_some}
+use borrow.Author.Tests.{ltb-true}
+use Rattle.filter.specs.Midpoints.{clear_of_midpoints, narrowed_pattern}
 use Rattle.slow_filter.specs.NearOne.{near_one_power, margin, near_one_found}
 use Rattle.slow_filter.proofs.NearOneTiny.{FromOne, tiny_bound, tiny_is_one, tiny_near}
 use Rattle.slow_filter.proofs.NearOnePower.{near_one_power_lem, tiny_power}
@@ -40,30 +41,22 @@ narrowed_is w w' u g h t =
         → min ((w + 268435455 + w / 536870912 % 2) / 536870912 - 7516192768) 0x7f800000 ≡ (w' + 0x10000000) / 0x20000000 - 0x1c0000000
     rounds w w' l m g h t = omega arith
 
--- ---- the answer that is found is what x narrows to
-abbrev Narrows : Float → Option Float → Type 0
-Narrows x (Some v) = narrowed x ≡ v
-Narrows x None = Unit {0}
-
-narrows : (w w' : ℕ) → Unscaled w → w ≤ w' + 6 → w' ≤ w + 6 → Narrows (f64 w) (narrowed_pattern margin w')
+-- ---- the answer that is found is what the other pattern narrows to
+narrows : (w w' : ℕ) (v : Float) → Unscaled w → w ≤ w' + 6 → w' ≤ w + 6 → narrowed_pattern margin w' ≡ Some v → narrowed (f64 w) ≡ v
 unfolding narrowed_pattern
-narrows w w' u g h = go (ltb (2 * margin) ((w' + (0x10000000 + margin)) % 0x20000000)) (ltb→lt (2 * margin) ((w' + (0x10000000 + margin)) % 0x20000000))
-  where
-    go : (x : Bool) → (T x → 2 * margin < (w' + (0x10000000 + margin)) % 0x20000000) → Narrows (f64 w) (cond x (Some (of_bits binary32 ((w' + 0x10000000) / 0x20000000 - 0x1c0000000))) None)
-    go true t = narrowed_is w w' u g h (t tt)
-    go false t = tt
+narrows w w' v u g h found =
+    let o = cond_some (clear_of_midpoints margin w') _ v found in
+    narrowed_is w w' u g h (ltb-true _ _ o.0) ∙ o.1
 
 -- the same where both are 1
-narrows_one : (x : Float) (w' : ℕ) → narrowed x ≡ of_bits binary32 0x3f800000 → FromOne (2 ^ 28 + 8) w' → Narrows x (narrowed_pattern margin w')
+narrows_one : (x : Float) (w' : ℕ) (v : Float) → narrowed x ≡ of_bits binary32 0x3f800000 → FromOne (2 ^ 28 + 8) w' → narrowed_pattern margin w' ≡ Some v → narrowed x ≡ v
 unfolding narrowed_pattern
-narrows_one x w' e r = go (ltb (2 * margin) ((w' + (0x10000000 + margin)) % 0x20000000)) (ltb→lt (2 * margin) ((w' + (0x10000000 + margin)) % 0x20000000))
+narrows_one x w' v e r found =
+    let o = cond_some (clear_of_midpoints margin w') _ v found in
+    e ∙ ap (of_bits binary32) (rounds w' r.least r.most (ltb-true _ _ o.0)) ∙ o.1
   where
     rounds : (w' : ℕ) → 1023 * 2 ^ 52 ≤ w' + (2 ^ 28 + 8) → w' ≤ 1023 * 2 ^ 52 + (2 ^ 28 + 8) → 2 * margin < (w' + (0x10000000 + margin)) % 0x20000000 → 0x3f800000 ≡ (w' + 0x10000000) / 0x20000000 - 0x1c0000000
     rounds w' g h t = omega arith
-
-    go : (y : Bool) → (T y → 2 * margin < (w' + (0x10000000 + margin)) % 0x20000000) → Narrows x (cond y (Some (of_bits binary32 ((w' + 0x10000000) / 0x20000000 - 0x1c0000000))) None)
-    go true t = e ∙ ap (of_bits binary32) (rounds w' r.least r.most (t tt))
-    go false t = tt
 
 pub near_one : (t : DoubleDouble) (t' : Float) → Number t.hi → Apart S 2 t.hi t' → Bound S 1 t.lo → Bound S (2 ^ 37) t' → (v : Float) → near_one_found t' ≡ Some v → v ≡ exp2_accurate t
 unfolding near_one_found
@@ -72,8 +65,8 @@ near_one t t' n a l b v found = go (le (absolute t.hi) (f64 0x3e6715476af0d4c8))
     go : (x : Bool) → le (absolute t.hi) (f64 0x3e6715476af0d4c8) ≡ x → v ≡ exp2_accurate t
     go false e =
         let p = near_one_power_lem t t' n a l b e in
-        sym (subst (Narrows (f64 p.pattern)) found (narrows p.pattern (to_bits binary64 (near_one_power t')) p.unscaled p.over p.under)) ∙ sym p.is
+        sym (narrows p.pattern (to_bits binary64 (near_one_power t')) v p.unscaled p.over p.under found) ∙ sym p.is
     go true e =
         let h = tiny_bound t.hi n e in
         let x = one ⊕ t.hi ⊗ f64 0x3fe0000000000000 in
-        sym (subst (Narrows x) found (narrows_one x (to_bits binary64 (near_one_power t')) (tiny_is_one t.hi h) (tiny_near t' (bound_near b.number (apart_turned a) h)))) ∙ sym (tiny_power t t' n a l b e)
+        sym (narrows_one x (to_bits binary64 (near_one_power t')) v (tiny_is_one t.hi h) (tiny_near t' (bound_near b.number (apart_turned a) h)) found) ∙ sym (tiny_power t t' n a l b e)

@@ -1,9 +1,9 @@
 -- The polynomials of the power next to 1: for a z' of at most 2^-16 in size and a z that is 3 × 2^-53 from it, and a little, both are 1 and a term, w and w', and these are less than 2.09 × 2^-53
 -- from each other; and hi and lo of the slow path's are together 1 + w but for a little (`poly_near`). Terms of degree 4 and above count for less than 2^-64. Assumes nothing.
 use mathlib.Core.Path.{◌≡◌, refl, subst}
-use Prim.Native.Nat.{ℕ, ◌+◌, ◌-◌, ◌*◌, ◌^◌, ◌<◌}
+use Prim.Native.Nat.{ℕ, ◌+◌, ◌*◌, ◌^◌, ◌<◌}
 use lib.Dec.{lit<}
-use lib.Ieee.{Float, binary64, fits, to_bits, of_bits}
+use lib.Ieee.{Float, fits, of_bits}
 use Rattle.floats.specs.Operations.{◌⊕◌, ◌⊗◌}
 use Rattle.double_double.specs.declared.DoubleDouble.{DoubleDouble}
 use Rattle.double_double.specs.DoubleDouble.{from_exact_add, from_exact_mult, quick_mult, dd_fmla}
@@ -13,8 +13,7 @@ use Rattle.slow_path.proofs.Coefficients.{q2_size, q2_second, q2_first}
 use Rattle.bounds.proofs.Scales.{S, unit, unit_left, Bound, Bounds, at, add_bound, mul_bound, fmla_bound, fast_bounds, quick_bounds, tested}
 use Rattle.bounds.proofs.Distances.{Apart, apart_at, add_apart}
 use Rattle.bounds.proofs.Apart.{apart_same, sum_apart, product_apart}
-use Rattle.bounds.proofs.Compared.{positive_at, positive_bound, positive_add}
-use Rattle.filter.proofs.Power.{Unscaled, unscaled}
+use Rattle.bounds.proofs.Compared.{positive_bound}
 use Rattle.slow_filter.specs.NearOne.{near_one_power}
 use Rattle.slow_filter.proofs.Fine.{fine, times_fine, bound_fine, bound_one, apart_one}
 use Rattle.slow_filter.proofs.SmallTerm.{Parts, parts_at, small_term, more_low}

@@ -35,6 +35,7 @@ use Rattle.bounds.proofs.Nearest.{whole_shared}
 use Rattle.filter.proofs.Power.{Unscaled}
 use Rattle.slow_filter.specs.NearOne.{near_one_power}
 use Rattle.slow_filter.proofs.Odd.{Odd, odd_of}
+use Rattle.slow_filter.proofs.LowPart.{nil_of}
 use Rattle.slow_filter.proofs.Fine.{fine, fine_scale, bound_fine, bound_one, apart_fine, apart_one}
 use Rattle.slow_filter.proofs.SmallTerm.{Parts, parts_at, small_term, near_parts, parts_through, sums_near}
 use Rattle.slow_filter.proofs.NearOnePoly.{PolyNear, poly_near}
@@ -92,9 +93,6 @@ same_apart {μ} {x} {y} s = record { over = go (plus x) (less x) (plus y) (less 
 same_bound : {μ K : ℕ} {x y : Float} → Same x y → Bound μ K y → Bound μ K x
 same_bound {μ} {K} s b = record { scale = b.scale; number = s.number; size = le_trans (le_of_eq (ap₂ ◌+◌ s.plus_same s.less_same)) b.size }
 
-same_nil : {x : Float} → Same x zero → Nil x
-same_nil s = record { number = s.number; is = ap₂ ◌+◌ s.plus_same s.less_same }
-
 in_limit : {μ K : ℕ} {x : Float} → Bound μ K x → T (ok K) → (mag x + 1) * 2 ^ 28 ≤ limit
 in_limit {μ} {K} {x} b t = go (mag x) (K * μ) limit b.size (small_limit K μ t b.scale.bounded) large
   where
@@ -119,7 +117,7 @@ times_unity {a} {b} {r} p h =
     let x1 = same_bound same p.low in
     let x2 = nil_bound fine fine_scale (nil_product (nil false) h.number) in
     let x3 = add_bound x1 x2 tt in
-    let x4 = nil_bound fine fine_scale (same_nil c.lo) in
+    let x4 = nil_bound fine fine_scale (nil_of c.lo) in
     near_parts p (same_apart c.hi) (apart_through (add_apart_right x4 x3 tt) (apart_through (add_apart x1 x2 tt) (same_apart same))) (add_bound x4 x3 tt)
 
 -- ---- the two side by side

@@ -1,6 +1,7 @@
 -- (a×z + b)×z + c, nested, beside a×z² + (b×z + c): the same but for the roundings, by the laws on sums and products in another order (`regrouped`). Assumes nothing.
-use mathlib.Core.Bool.{Bool, true, ◌&&◌, false}
+use mathlib.Core.Bool.{Bool, ◌&&◌}
 use Prim.Native.Nat.{ℕ, ◌+◌}
+use native.Mathlib.Omega.{arith}
 use lib.Dec.{T}
 use lib.Ieee.{Float}
 use Rattle.floats.specs.Operations.{◌⊕◌, ◌⊗◌}
@@ -48,8 +49,4 @@ regrouped {K} {Z} {L} {C} {a} {z} {b} {c} p q r s g =
     (apart_through (sums_apart azz bz s j.3 k.1 k.2 k.3) (sum_apart last (apart_same (b ⊗ z ⊕ c)) azz bzc (mul_bound one p zz i.0 i.3) bzc k.3 o.3))
   where
     split : (a b c d : Bool) → T (a && b && c && d) → T a × T b × T c × T d
-    split true true true true h = (tt, tt, tt, tt)
-    split false _ _ d h = elim h [ ]
-    split true false _ d h = elim h [ ]
-    split true true false d h = elim h [ ]
-    split true true true false h = elim h [ ]
+    split a b c d h = grind arith

@@ -1,8 +1,9 @@
 -- The polynomials of the power, side by side: where z and z' are 3/2 × 2^-29 from each other, and a little, and at most 1/64 in size, hi of the slow path's is less than 1.053 × 2^-29 from the
 -- plain one (`poly_beside`). Both are brought to Horner's form, in which the coefficients are compared one by one. Numbers are on the scale of 1, where 2^53 is 1. Assumes nothing.
 use mathlib.Core.Path.{◌≡◌, refl, subst}
-use mathlib.Core.Bool.{Bool, true, ◌&&◌, false}
+use mathlib.Core.Bool.{Bool, ◌&&◌}
 use Prim.Native.Nat.{ℕ, ◌+◌, ◌*◌, ◌^◌}
+use native.Mathlib.Omega.{arith}
 use lib.Dec.{T, leb, leb→le}
 use lib.Ieee.{Float, binary64, fits, of_bits}
 use Rattle.floats.specs.Operations.{◌⊕◌, ◌⊗◌}
@@ -105,11 +106,7 @@ step {K = K} {x = x} {x' = x'} {c = c} {c' = c'} {z = z} {z' = z'} E M p r b f g
     })
   where
     first : (a b c d : Bool) → T (a && b && c && d) → T a
-    first true true true true h = tt
-    first false _ _ d h = elim h [ ]
-    first true false _ d h = elim h [ ]
-    first true true false d h = elim h [ ]
-    first true true true false h = elim h [ ]
+    first a b c d h = grind arith
 
 -- ---- all of it
 pub record PolyBeside (p p' : Float) : Type 0 where

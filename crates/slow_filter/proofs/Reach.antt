@@ -4,7 +4,7 @@ use mathlib.Core.Path.{◌≡◌, refl, sym, subst}
 use mathlib.Core.Logic.{◌⊎◌, inl, inr}
 use mathlib.Core.Bool.{Bool, true, false, true≢false, ◌&&◌}
 use Prim.Native.Nat.{ℕ, ◌+◌, ◌-◌, ◌*◌, ◌^◌, ◌≤◌, ◌<◌}
-use native.Mathlib.Nat.{lt_of_lt_of_le}
+use native.Mathlib.Nat.{le_trans, lt_of_lt_of_le}
 use native.Mathlib.Omega.{arith}
 use lib.Dec.{T, lit≤, lit<}
 use lib.IntN.{pos}
@@ -13,7 +13,7 @@ use lib.Ieee.Fits.{sub-fits}
 use Rattle.floats.specs.OnBits.{absolute}
 use Rattle.floats.specs.Narrowing.{nearest_whole}
 use Rattle.special.specs.Special.{one}
-use Rattle.slow_path.proofs.OnePlusParts.{absolute_units}
+use Rattle.slow_path.proofs.OnePlusParts.{size_least, size_most}
 use Rattle.bounds.proofs.Values.{per_one, plus, less, mag, one_side, Number}
 use Rattle.bounds.proofs.Scales.{S, S_pos, one_is, unit, Bound, tested}
 use Rattle.bounds.proofs.Distances.{Apart, sub_apart}
@@ -29,10 +29,7 @@ use Rattle.slow_filter.proofs.BelowNormal.{below_normal}
 
 -- ---- the tests, one by one
 three : (a b c : Bool) → (a && (b && c)) ≡ true → (a ≡ true) × (b ≡ true) × (c ≡ true)
-three true true true e = (e, e, e)
-three true true false e = absurd (true≢false (sym e))
-three true false c e = absurd (true≢false (sym e))
-three false b c e = absurd (true≢false (sym e))
+three a b c e = grind arith
 
 pub record Reached (y t : Float) : Type 0 where
   pub not_one : ne y one ≡ true
@@ -71,23 +68,10 @@ sizes = (record { held = tt; plain = tt }, lit≤ tt, refl, record { held = tt; 
 pub next_bound : (t : Float) → T (fits binary64 t) → le (absolute t) next_to ≡ true → Bound S (2 ^ 37) t
 next_bound t f e =
     let n = small_number t f e in
-    let a = absolute_units t n in
-    record {
-      scale = unit;
-      number = n;
-      size = go (plus (absolute t)) (less (absolute t)) (plus next_to) (less next_to) (mag t) (2 ^ 37 * S) a.1 a.2 sizes.1 sizes.2 (units_of_le a.0 sizes.0 e);
-    }
-  where
-    go : (p n q m t k : ℕ) → p ≡ t → n ≡ 0 → q ≤ k → m ≡ 0 → p + m ≤ q + n → t ≤ k
-    go p n q m t k e1 e2 e3 e4 h = omega arith
+    record { scale = unit; number = n; size = le_trans (size_most next_to t sizes.0 sizes.2 n e) sizes.1 }
 
 pub next_least : (t : Float) → Number t → le next_from (absolute t) ≡ true → 2 ^ 28 * S ≤ mag t
-next_least t n e =
-    let a = absolute_units t n in
-    go (plus (absolute t)) (less (absolute t)) (plus next_from) (less next_from) (mag t) (2 ^ 28 * S) a.1 a.2 sizes.4 sizes.5 (units_of_le sizes.3 a.0 e)
-  where
-    go : (p n q m t k : ℕ) → p ≡ t → n ≡ 0 → k ≤ q → m ≡ 0 → q + n ≤ p + m → k ≤ t
-    go p n q m t k e1 e2 e3 e4 h = omega arith
+next_least t n e = le_trans sizes.4 (size_least next_from t sizes.3 sizes.5 n e)
 
 -- ---- t between -149.5 and -128
 module _ (t : Float) (f : T (fits binary64 t)) (high : le t slow_to ≡ true) (low : le slow_from t ≡ true) where

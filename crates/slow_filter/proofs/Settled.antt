@@ -1,6 +1,6 @@
 -- What the plain evaluation finds of x and y is the slow path's answer (`settled`): the accurate logarithm times y is near the plain t', the accurate power near the plain one, and no midpoint is between
 -- them. Assumes nothing.
-use Rattle.std.proofs.Common.{Option, Some, None}
+use Rattle.std.proofs.Common.{Some, None}
 use mathlib.Core.Path.{◌≡◌, refl, sym, ◌∙◌, subst}
 use mathlib.Core.Bool.{Bool, true, false, cond}
 use Prim.Native.Nat.{ℕ, zero, suc, ◌+◌, ◌*◌, ◌^◌, ◌<◌}
@@ -35,14 +35,6 @@ use Rattle.slow_filter.proofs.Power.{power_of}
 use Rattle.slow_filter.proofs.Subnormal.{subnormal}
 use Rattle.slow_filter.proofs.NearOne.{near_one}
 use Rattle.slow_filter.proofs.Reach.{Reached, in_parts, Next, next_parts, next_bound, next_least, reach_bound, reach_negative, reach_some, reach_apart, reach_whole, reach_k, wide_bounds}
-
--- None is no answer
-no_answer : (v : Float) → None ≡ Some v → ⊥
-no_answer v e = subst (λ (f : Option Float). Told f) e tt
-  where
-    Told : Option Float → Type 0
-    Told (Some v) = ⊥
-    Told None = Unit {0}
 
 -- where x is 0, the plain logarithm is, and so is t'
 nil_log : (x y : Float) → Nil x → Number y → Nil (x ⊗ plain_factor x ⊗ y)
@@ -95,7 +87,7 @@ module _ (x y : Float) (fx : T (fits binary32 x)) (px : T (finite x)) (hx : T (l
       where
         go : (q : Bool) → clear_of_switches switch_gap (part_of t') (rest_of t') ≡ q → cond q (subnormal_found (plain_pattern t') (to_signed 63 (nearest_whole t'))) None ≡ Some v → v ≡ compoundf_accurate x y
         go true g e = by_power v g e
-        go false g e = absurd (no_answer v e)
+        go false g e = cc
 
   -- ---- next to 1
   beside_one : Next y t' → (v : Float) → near_one_found t' ≡ Some v → v ≡ compoundf_accurate x y
@@ -115,4 +107,4 @@ module _ (x y : Float) (fx : T (fits binary32 x)) (px : T (finite x)) (hx : T (l
       go : (p : Bool) → in_reach y t' ≡ p → (q : Bool) → next_to_one y t' ≡ q → cond p (subnormal_power t') (cond q (near_one_found t') None) ≡ Some v → v ≡ compoundf_accurate x y
       go true f q g e = below (in_parts y t' f) v e
       go false f true g e = beside_one (next_parts y t' g) v e
-      go false f false g e = absurd (no_answer v e)
+      go false f false g e = cc

@@ -1,12 +1,12 @@
 -- Where the plain value is clear of every midpoint of two subnormal f32s, the slow path's narrows to what the plain one rounds to (`subnormal`): its pattern is between the two that are
 -- tested, so that its sum with 2^-97 is between two that are the same. Assumes nothing.
-use Rattle.std.proofs.Common.{Option, Some, None}
-use mathlib.Core.Path.{◌≡◌, refl, sym, ap, ◌∙◌, subst}
-use mathlib.Core.Bool.{Bool, true, false, cond}
+use Rattle.std.proofs.Common.{Some}
+use mathlib.Core.Path.{◌≡◌, sym, ap, ◌∙◌, subst}
 use Prim.Native.Nat.{ℕ, suc, ◌+◌, ◌-◌, ◌*◌, ◌%◌, ◌^◌, ◌≤◌, ◌<◌}
 use native.Mathlib.Nat.{le_trans, le_of_eq, le_antisymm, lt_of_lt_of_le}
 use native.Mathlib.Omega.{arith}
 use borrow.Author.Tests.{eqb-true}
+use Rattle.std.proofs.lemmas.Option.{cond_some}
 use lib.Dec.{eqb, lit≤, lit<}
 use lib.IntN.{ℤ, pos, negsuc}
 use lib.Ieee.{Float, binary32, binary64, of_bits}
@@ -71,21 +71,14 @@ sum_same w w' p q g h e =
     less : (w w' : ℕ) → w' ≤ w + 2 ^ 25 → w' - 2 ^ 25 ≤ w
     less w w' h = omega arith
 
--- ---- the answer that is found is what x narrows to
-abbrev Narrows : Float → Option Float → Type 0
-Narrows x (Some v) = narrowed x ≡ v
-Narrows x None = Unit {0}
-
-narrows : (w w' : ℕ) → Below w → Below w' → w ≤ w' + 2 ^ 25 → w' ≤ w + 2 ^ 25 → Narrows (f64 w) (rounded_subnormal w')
+-- ---- the answer that is found is what the other pattern narrows to
+narrows : (w w' : ℕ) (v : Float) → Below w → Below w' → w ≤ w' + 2 ^ 25 → w' ≤ w + 2 ^ 25 → rounded_subnormal w' ≡ Some v → narrowed (f64 w) ≡ v
 unfolding rounded_subnormal
-narrows w w' p q g h = go (eqb (subnormal_sum (w' - 2 ^ 25)) (subnormal_sum (w' + 2 ^ 25))) refl
-  where
-    go : (x : Bool) → eqb (subnormal_sum (w' - 2 ^ 25)) (subnormal_sum (w' + 2 ^ 25)) ≡ x → Narrows (f64 w) (cond x (Some (of_bits binary32 (subnormal_sum (w' - 2 ^ 25) - 0x39e0000000000000))) None)
-    go true e = narrowed_is w p.most ∙ ap (λ (s : ℕ). of_bits binary32 (s - 0x39e0000000000000)) (sum_same w w' p q g h (eqb-true _ _ e))
-    go false e = tt
+narrows w w' v p q g h found =
+    let o = cond_some (eqb (subnormal_sum (w' - 2 ^ 25)) (subnormal_sum (w' + 2 ^ 25))) _ v found in
+    narrowed_is w p.most ∙ ap (λ (s : ℕ). of_bits binary32 (s - 0x39e0000000000000)) (sum_same w w' p q g h (eqb-true _ _ o.0)) ∙ o.1
 
 pub subnormal : (b b' : ℕ) (k : ℤ) (v : Float) → Unscaled b → Unscaled b' → b ≤ b' + 2 ^ 25 → b' ≤ b + 2 ^ 25 → BelowNormal k → subnormal_found b' k ≡ Some v → narrowed (f64 (scaled b k)) ≡ v
 unfolding subnormal_found
 subnormal b b' k v u u' g h n found =
-    subst (Narrows (f64 (scaled b k))) found
-    (narrows (scaled b k) (scaled b' k) (scaled_below b k u n) (scaled_below b' k u' n) (scaled_near b b' k u u' n g) (scaled_near b' b k u' u n h))
+    narrows (scaled b k) (scaled b' k) v (scaled_below b k u n) (scaled_below b' k u' n) (scaled_near b b' k u u' n g) (scaled_near b' b k u' u n h) found

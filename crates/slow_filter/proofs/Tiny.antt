@@ -5,7 +5,7 @@ use mathlib.Core.Path.{◌≡◌, refl, sym, ap, ap₂, ◌∙◌, subst}
 use mathlib.Core.Logic.{◌⊎◌, inl, inr}
 use mathlib.Core.Bool.{Bool, true, false, not, cond}
 use Prim.Native.Nat.{ℕ, zero, suc, ◌+◌, ◌-◌, ◌*◌, ◌/◌, ◌%◌, ◌^◌, ◌≤◌, ◌<◌, zero-le}
-use native.Mathlib.Nat.{le_refl, le_trans, le_of_eq, le_of_lt, le_of_mul-le-mul_right, mul_assoc, mul-le-mul, mul-le-mul_right, add-le-add, le-add_right, not-le_of_lt}
+use native.Mathlib.Nat.{le_refl, le_trans, le_of_eq, le_of_lt, lt_of_lt_of_le, le_of_mul-le-mul_right, mul_assoc, mul-le-mul, mul-le-mul_right, le-add_right, not-le_of_lt}
 use native.Mathlib.Omega.{arith}
 use lib.Dec.{T, leb, leb→le, nleb→lt, lit≤, lit<}
 use lib.IntN.{ℤ, negsuc}
@@ -31,12 +31,12 @@ use Rattle.fast_path.proofs.Reduced.{Alone, no_power, One, one_18, one_19}
 use Rattle.slow_path.specs.Slow.{one_plus, times_inverse, log2_reduced, log2_poly2, sum_of_logs, compoundf_log2p1_accurate}
 use Rattle.slow_path.proofs.LogSize.{poly_size, logs_size}
 use Rattle.slow_path.proofs.LowPart.{one_is_1, one_mag}
-use Rattle.slow_path.proofs.OnePlusParts.{absolute_units}
+use Rattle.slow_path.proofs.OnePlusParts.{size_least, size_below}
 use Rattle.bounds.proofs.Values.{per_one, plus, less, mag, one_side, Number, neg_plus, neg_less}
 use Rattle.bounds.proofs.Operation.{Small, Same, mul_near}
 use Rattle.bounds.proofs.Scales.{S, S_pos, one_is, unit, unit_left, Scale, Bound, Bounds, at, onto, neg_bound, sub_bound, mul_bound, mul_limit, fast_bounds}
 use Rattle.bounds.proofs.Distances.{Apart, apart_at, apart_through, sum_off, add_apart_right, not_more, bound_near}
-use Rattle.bounds.proofs.Compared.{Positive, positive_at, positive_bound, positive_near, positive_add, le_of_units, le_true, units_of_le, gt_of_not_le}
+use Rattle.bounds.proofs.Compared.{Positive, positive_at, positive_bound, positive_near, positive_add, le_of_units, le_true}
 use Rattle.bounds.proofs.Exactly.{Off, minus_one_lem, fmla_minus_one, one_times}
 use Rattle.bounds.proofs.OwnScale.{Nil, nil_bound, nil_sum}
 use Rattle.bounds.proofs.Apart.{apart_same, apart_turned, product_apart}
@@ -45,13 +45,11 @@ use Rattle.filter.proofs.Factor.{plain_factor_lem, factor_beside}
 use Rattle.filter.proofs.Times.{single}
 use Rattle.slow_filter.specs.Plain.{kept_from}
 use Rattle.slow_filter.proofs.SlowFactor.{slow_is, slow_size, slow_beside, mul_turned}
-use Rattle.slow_filter.proofs.LogOwn.{LogOwn}
+use Rattle.slow_filter.proofs.LogOwn.{LogOwn, own_bound}
+use Rattle.slow_filter.proofs.LowPart.{tiny}
+use Rattle.slow_filter.proofs.Fine.{onto_apart}
 
 -- ---- the numbers that are tested
--- 2^-53
-abbrev tiny : Float
-tiny = fin false 1 (negsuc 52)
-
 kept_is : Number kept_from × (plus kept_from ≤ 2 ^ 24 * S) × (less kept_from ≡ 0)
 unfolding fits S
 kept_is = (record { held = tt; plain = tt }, lit≤ tt, refl)
@@ -163,12 +161,7 @@ module _ (x : Float) (f : T (fits binary32 x)) (p : T (finite x)) (small : le ke
       go (inr h) = h
 
   below : mag x < 2 ^ 24 * S
-  below =
-      let w = absolute_units x number in
-      go (plus kept_from) (less kept_from) (plus (absolute x)) (less (absolute x)) (mag x) (2 ^ 24 * S) kept_is.1 kept_is.2 w.1 w.2 (gt_of_not_le kept_from (absolute x) kept_is.0 w.0 small)
-    where
-      go : (p n q m x s : ℕ) → p ≤ s → n ≡ 0 → q ≡ x → m ≡ 0 → q + n < p + m → x < s
-      go p n q m x s a b c d g = omega arith
+  below = lt_of_lt_of_le (size_below kept_from x kept_is.0 kept_is.2 number small) kept_is.1
 
   on_one : Bound S (2 ^ 24) x
   on_one = record { scale = unit; number = number; size = le_of_lt below }
@@ -227,10 +220,7 @@ module _ (x : Float) (f : T (fits binary32 x)) (p : T (finite x)) (small : le ke
 
   k_own : Bound κ (2 ^ 53 + 1) k
   unfolding κ
-  k_own = record { scale = scale; number = k_size.number; size = over (mag k) k_large }
-    where
-      over : (m : ℕ) → 2 ^ 110 ≤ m → m ≤ (2 ^ 53 + 1) * (m / 2 ^ 53)
-      over m h = omega arith
+  k_own = own_bound k k_large k_size.number scale
 
   x_own : Bound κ (2 ^ 53) x
   unfolding κ
@@ -247,7 +237,7 @@ module _ (x : Float) (f : T (fits binary32 x)) (p : T (finite x)) (small : le ke
   bound_wider {K} M b t = onto S M unit b (wider K M t)
 
   apart_wider : {K : ℕ} {z w : Float} (M : ℕ) → Apart κ K z w → T (leb K (M * 2 ^ 28)) → Apart S M z w
-  apart_wider {K} M a t = record { over = le_trans a.over (add-le-add (le_refl _) (wider K M t)); under = le_trans a.under (add-le-add (le_refl _) (wider K M t)) }
+  apart_wider {K} M a t = onto_apart a (wider K M t)
 
   -- ---- the two parts of 1 + x: with z for hi - 1, z + lo is x but for 5 on the scale of k
   record Parts (v : DoubleDouble) : Type 0 where
@@ -362,12 +352,7 @@ module _ (x : Float) (f : T (fits binary32 x)) (p : T (finite x)) (small : le ke
           under p n q m s w a b c h = omega arith
 
       not_lost : le tiny (absolute (narrowed x)) ≡ true → S ≤ mag x
-      not_lost e =
-          let w = absolute_units x number in
-          over (plus tiny) (less tiny) (plus (absolute x)) (less (absolute x)) (mag x) S tiny_is.1 tiny_is.2 w.1 w.2 (units_of_le tiny_is.0 w.0 (ap (λ (k : Float). le tiny (absolute k)) (sym (narrowed_same x f)) ∙ e))
-        where
-          over : (p n q m x s : ℕ) → p ≡ s → n ≡ 0 → q ≡ x → m ≡ 0 → p + m ≤ q + n → s ≤ x
-          over p n q m x s a b c d g = omega arith
+      not_lost e = le_trans (le_of_eq (sym tiny_is.1)) (size_least tiny x tiny_is.0 tiny_is.2 number (ap (λ (k : Float). le tiny (absolute k)) (sym (narrowed_same x f)) ∙ e))
 
       go : (b : Bool) → b ≡ true → (c : Bool) → le tiny (absolute (narrowed x)) ≡ c → Parts (cond b (cond c (from_exact_add one x) (record { lo = x; hi = one })) (from_exact_add x one))
       go true d true e = summed (not_lost e)

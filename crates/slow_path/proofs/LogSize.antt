@@ -75,9 +75,4 @@ logs_size {μ} {E} {A} {a} {B} {b} {e} {x} {y} p q r g =
     record { hi = sum.hi; lo = add_bound sum.lo (add_bound sLo r.lo o.3) o.4 }
   where
     five : (a b c d e : Bool) → T (a && b && c && d && e) → T a × T b × T c × T d × T e
-    five true true true true true h = (tt, tt, tt, tt, tt)
-    five false _ c d _ h = elim h [ ]
-    five true false c d _ h = elim h [ ]
-    five true true false d _ h = elim h [ ]
-    five true true true false _ h = elim h [ ]
-    five true true true true false h = elim h [ ]
+    five a b c d e h = grind arith

@@ -16,7 +16,7 @@ use Rattle.bounds.proofs.Values.{per_one, plus, less, mag, one_side, Number}
 use Rattle.bounds.proofs.Operation.{limit, Close, Small, add_near}
 use Rattle.bounds.proofs.Sums.{sides, sum_small, fast_sum}
 use Rattle.bounds.proofs.Scales.{S, S_pos, one_is, Scale, Bound, at, sub_small_bound}
-use Rattle.bounds.proofs.Compared.{Positive, le_units}
+use Rattle.bounds.proofs.Compared.{Positive, le_units, units_of_le, gt_of_not_le}
 use Rattle.bounds.proofs.Exactly.{minus_one_lem}
 use Rattle.slow_path.proofs.LowPart.{one_is_1, one_mag, f32_number, above_minus_one, sum_limit, one_plus_near, least_units, sum_least}
 
@@ -41,6 +41,32 @@ absolute_units nan n = absurd n.plain
 absolute_units (inf s) n = absurd n.plain
 absolute_units (fin true m e) n = (record { held = fits_signed binary64 true false m e n.held; plain = tt }, sym (zero-add (m * 2 ^ exponent 1074 e)), refl)
 absolute_units (fin false m e) n = (n, sym (add-zero (m * 2 ^ exponent 1074 e)), refl)
+
+-- so what |x| is beside a number that is not below 0 says how large x is
+module _ (c x : Float) (C : Number c) (clear : less c ≡ 0) (X : Number x) where
+  pub size_least : le c (absolute x) ≡ true → plus c ≤ mag x
+  size_least e =
+      let a = absolute_units x X in
+      go (plus c) (less c) (plus (absolute x)) (less (absolute x)) (mag x) clear a.1 a.2 (units_of_le C a.0 e)
+    where
+      go : (p n q m t : ℕ) → n ≡ 0 → q ≡ t → m ≡ 0 → p + m ≤ q + n → p ≤ t
+      go p n q m t e d f h = omega arith
+
+  pub size_most : le (absolute x) c ≡ true → mag x ≤ plus c
+  size_most e =
+      let a = absolute_units x X in
+      go (plus c) (less c) (plus (absolute x)) (less (absolute x)) (mag x) clear a.1 a.2 (units_of_le a.0 C e)
+    where
+      go : (p n q m t : ℕ) → n ≡ 0 → q ≡ t → m ≡ 0 → q + n ≤ p + m → t ≤ p
+      go p n q m t e d f h = omega arith
+
+  pub size_below : le c (absolute x) ≡ false → mag x < plus c
+  size_below e =
+      let a = absolute_units x X in
+      go (plus c) (less c) (plus (absolute x)) (less (absolute x)) (mag x) clear a.1 a.2 (gt_of_not_le c (absolute x) C a.0 e)
+    where
+      go : (p n q m t : ℕ) → n ≡ 0 → q ≡ t → m ≡ 0 → q + n < p + m → t < p
+      go p n q m t e d f h = omega arith
 
 -- hi and lo of 1 + x
 pub record Parted (x : Float) (v : DoubleDouble) : Type 0 where

@@ -1,20 +1,20 @@
 -- Digits that lie side by side in one number, the lowest first, and steps that act on all of them at once: a mask on each, and neighbours joined. Assumes nothing.
 use mathlib.Core.Path.{◌≡◌, refl, sym, ap, ap₂, subst, ◌∙◌}
 use mathlib.Core.Bool.{true}
-use mathlib.Core.Logic.{⊎_elim}
 use mathlib.Core.List.{List, [], ◌∷◌, map}
 use Prim.Native.Nat.{ℕ, zero, suc, ◌+◌, ◌*◌, ◌/◌, ◌%◌, ◌^◌, ◌≤◌, ◌<◌}
 use native.Mathlib.Omega.{arith}
-use native.Mathlib.Nat.{add_comm, mul-div_cancel, mul-add-mod_self_right, mod-eq_of_lt, zero-lt-suc}
+use native.Mathlib.Nat.{mul-div_cancel, zero-lt-suc}
 use mir.Syntax.{w64}
 use lib.Bits.{bit_and, and_block, and_mask, and_high}
 use lib.Dec.{lit<}
 use lib.ListN.{length, get_or, drop, replicate, drop_of_length-le}
 use lib.Seq.{drop-cons}
+use Rattle.std.proofs.lemmas.Bool.Decides.{nat_tests}
 use Rattle.std.specs.Int.{from_le_bytes}
 use Rattle.text.specs.Bytes.{all}
-use Rattle.text.specs.Digits.{is_hex, digit_value, value, value_from}
-use Rattle.text.proofs.Numerals.{both, Between, is_hex_lem, low_value, high_value, sixteen}
+use Rattle.text.specs.Digits.{is_decimal, is_hex, digit_value, value, value_from}
+use Rattle.text.proofs.Numerals.{both, sixteen}
 
 -- ---- bytes read as one number
 -- the number of digits in a base, the lowest first
@@ -44,16 +44,12 @@ abbrev letter : ℕ → ℕ
 letter b = b / 64 % 2
 
 worth : (b : ℕ) → is_hex b ≡ true → low b + letter b * 9 ≡ digit_value b
-worth b e = ⊎_elim decimal other (is_hex_lem b e)
-  where
-    decimal : Between 48 b 57 → low b + letter b * 9 ≡ digit_value b
-    decimal t = rw (low_value b t.to) (omega (arith, t.from, t.to))
-
-    other : Between 97 b 102 → low b + letter b * 9 ≡ digit_value b
-    other t = rw (high_value b (omega (arith, t.from))) (omega (arith, t.from, t.to))
+unfolding is_decimal is_hex digit_value
+worth b e = grind (arith, nat_tests)
 
 byte : (b : ℕ) → is_hex b ≡ true → b < 256
-byte b e = ⊎_elim (λ t. omega (arith, t.to)) (λ t. omega (arith, t.to)) (is_hex_lem b e)
+unfolding is_decimal is_hex
+byte b e = grind (arith, nat_tests)
 
 bytes : (l : List ℕ) → all is_hex l ≡ true → Below 256 l
 unfolding all
@@ -63,20 +59,12 @@ bytes (b ∷ l) h = let p = both (is_hex b) (all is_hex l) h in (byte b p.0, byt
 letters_scaled : (l : List ℕ) → lowest_first 256 (map (λ (b : ℕ). letter b * 64) l) ≡ lowest_first 256 (map letter l) * 64
 unfolding lowest_first
 letters_scaled [] = refl
-letters_scaled (b ∷ l) = go _ _ (letter b) (letters_scaled l)
-  where
-    go : (x y c : ℕ) → x ≡ y * 64 → x * 256 + c * 64 ≡ (y * 256 + c) * 64
-    go x y c e = omega arith
+letters_scaled (b ∷ l) = omega (arith, letters_scaled l)
 
 all_worth : (l : List ℕ) → all is_hex l ≡ true → lowest_first 256 (map low l) + lowest_first 256 (map letter l) * 9 ≡ lowest_first 256 (map digit_value l)
 unfolding lowest_first all
 all_worth [] h = refl
-all_worth (b ∷ l) h =
-    let p = both (is_hex b) (all is_hex l) h in
-    go _ _ _ (low b) (letter b) (digit_value b) (all_worth l p.1) (worth b p.0)
-  where
-    go : (x y z a c d : ℕ) → x + y * 9 ≡ z → a + c * 9 ≡ d → x * 256 + a + (y * 256 + c) * 9 ≡ z * 256 + d
-    go x y z a c d e f = omega arith
+all_worth (b ∷ l) h = let p = both (is_hex b) (all is_hex l) h in omega (arith, all_worth l p.1, worth b p.0)
 
 -- what is done to a word of eight digits at once, and what it gives
 abbrev pub digits_of : ℕ → ℕ
@@ -94,10 +82,6 @@ digits_of_lem l e h =
     ∙ all_worth l h
 
 -- ---- neighbours joined: with each digit moved up and the next one added, every second sum is the two as one digit, and a mask keeps these
--- a digit and what stands above it
-first_of : (m p q : ℕ) → p < m → (p + q * m) % m ≡ p
-first_of m p q h = rw (add_comm p (q * m), mul-add-mod_self_right q m p) (mod-eq_of_lt h)
-
 abbrev pub pairs_of : ℕ → ℕ
 pairs_of v = bit_and (v * 16 + v / 256) 0x00ff00ff00ff00ff
 
@@ -112,8 +96,11 @@ abbrev sums : ℕ → ℕ → ℕ → ℕ → ℕ
 sums m x y z = two m x y + two m y z * (m * m)
 
 -- the first of the two sums
-first_sum : (m x y z : ℕ) → two m x y < m * m → sums m x y z % (m * m) ≡ two m x y
-first_sum m x y z h = first_of (m * m) (two m x y) (two m y z) h
+first_sum : (x y z : ℕ) → two 16 x y < 256 → sums 16 x y z % 256 ≡ two 16 x y
+first_sum x y z h = omega arith
+
+first_sum_256 : (x y z : ℕ) → two 256 x y < 65536 → sums 256 x y z % 65536 ≡ two 256 x y
+first_sum_256 x y z h = omega arith
 
 -- digits below 16, two by two
 pair_small : (x y : ℕ) → x < 16 → y < 16 → two 16 x y < 256
@@ -132,7 +119,7 @@ module _ (a b c d e f g h : ℕ) (small : Below 16 (a ∷ b ∷ c ∷ d ∷ e �
       ap (λ (s : ℕ). bit_and s 0x00ff00ff00ff00ff) (pairs_sum _ refl)
       ∙ and_each 16 255 (λ x. x % 256) (λ x. and_mask x 8) (lit< tt) (sums 16 a b c ∷ sums 16 c d e ∷ sums 16 e f g ∷ sums 16 g h 0 ∷ [])
       (size a b c i j k, (size c d e k l m, (size e f g m n o, (size g h 0 o p (lit< tt), tt))))
-      ∙ rw (first_sum 16 a b c (pair_small a b i j), first_sum 16 c d e (pair_small c d k l), first_sum 16 e f g (pair_small e f m n), first_sum 16 g h 0 (pair_small g h o p)) refl
+      ∙ rw (first_sum a b c (pair_small a b i j), first_sum c d e (pair_small c d k l), first_sum e f g (pair_small e f m n), first_sum g h 0 (pair_small g h o p)) refl
     where
       size : (x y z : ℕ) → x < 16 → y < 16 → z < 16 → sums 16 x y z < 65536
       size x y z i j k = omega arith
@@ -152,7 +139,7 @@ module _ (a b c d : ℕ) (small : Below 256 (a ∷ b ∷ c ∷ d ∷ [])) where
       let (i, (j, (k, (l, m)))) = small in
       ap (λ (s : ℕ). bit_and s 0x0000ffff0000ffff) (fours_sum _ refl)
       ∙ and_each 32 65535 (λ x. x % 65536) (λ x. and_mask x 16) (lit< tt) (sums 256 a b c ∷ sums 256 c d 0 ∷ []) (size a b c i j k, (size c d 0 k l (lit< tt), tt))
-      ∙ rw (first_sum 256 a b c (four_small a b i j), first_sum 256 c d 0 (four_small c d k l)) refl
+      ∙ rw (first_sum_256 a b c (four_small a b i j), first_sum_256 c d 0 (four_small c d k l)) refl
     where
       size : (x y z : ℕ) → x < 256 → y < 256 → z < 256 → sums 256 x y z < 0x100000000
       size x y z i j k = omega arith
