@@ -8,4 +8,4 @@ mod write;
 
 pub use digits::places;
 pub use hex::from_hex;
-pub use write::{Decimal, Hex, Text, put_bytes};
+pub use write::{Decimal, Hex, Text};

@@ -104,15 +104,3 @@ impl<T: Text> Text for Option<T> {
         }
     }
 }
-
-// Puts text at the place `at`, and answers the place after it.
-#[tactic(auto, using(crate::proofs::Put::put_part))]
-pub fn put_bytes(text: &[u8], out: &mut [u8], at: usize) -> usize
-    requires { at + length text.now ≤ length out.old }
-    ensures value { result ≡ at + length text.now }
-    ensures out_after { out.new ≡ put out.old at text.now }
-{
-    let end = at + text.len();
-    out[at..end].copy_from_slice(text);
-    end
-}
