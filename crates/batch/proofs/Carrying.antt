@@ -72,7 +72,7 @@ module _ (t : List ℕ) where
     unfolding lines rest
     lines_more = rw (adds_are, lines_append)
 
-    pub replies_added : replies (added (after_all t) p) ≡ replies (adds t p)
+    replies_added : replies (added (after_all t) p) ≡ replies (adds t p)
     unfolding added after_all
     replies_added = rw (adds_are, replies_held)
 

@@ -70,7 +70,7 @@ part_due a p b room e =
 
 module _ (input out₀ out : List ℕ) (s : State) (rest : List ℕ) (at : ℕ) (cs : List Call) (m : Come input out₀ out s rest at cs) where
   -- the output keeps its length, and what is left of it is as it was
-  pub come_length : length out ≡ length out₀
+  come_length : length out ≡ length out₀
   come_length = grind (arith, common_steps, m)
 
   come_left : drop at out ≡ drop at out₀
@@ -98,7 +98,7 @@ module _ (input out₀ out : List ℕ) (s : State) (rest : List ℕ) (at : ℕ) 
   unfolding adds lines lines_from
   answers_taken = rw (← after_none, answers_added, wrote_taken)
 
-  pub as_whole : Did fresh (accepted cs) out₀ (record { state = s; verdict = Ok at }) out
+  as_whole : Did fresh (accepted cs) out₀ (record { state = s; verdict = Ok at }) out
   as_whole = record { result = rw (verdict_taken, state_taken); output = rw answers_taken m.out_is }
 
   -- when all is taken, nothing was refused

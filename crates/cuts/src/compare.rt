@@ -1,98 +1,84 @@
 // What a feed or a close came to, beside what is expected.
-ghost use Rattle.std.specs.Prelude.{◌≤◌, length};
-
 use crate::MARK;
-use crate::expected::part;
-use batch::{Fed, State, Tail, Tallies, Verdict};
+use batch::{Fed, State};
+use std::fmt;
 
-// What differs first: nothing; a feed's answer, its output, its state; a close's answer.
-#[derive(Clone, Copy)]
-pub enum Differs {
-    Nothing,
+// What differs first: a feed's answer, its output, its state; a close's answer.
+#[derive(Clone, Copy, Debug, PartialEq, Eq)]
+pub(crate) enum Differs {
     Answer,
     Output,
     State,
     Closed,
 }
 
-// How many bytes a feed says that it wrote.
-pub(crate) fn wrote(verdict: Verdict) -> usize {
-    if let Verdict::Accepted(n) = verdict {
-        n
-    } else {
-        0
-    }
-}
-
-// Whether all bytes of s are as they were before the feed.
-fn is_untouched(s: &[u8]) -> bool {
-    let mut i = 0;
-    while i < s.len() {
-        if s[i] != MARK {
-            return false;
+impl fmt::Display for Differs {
+    fn fmt<W: fmt::Write>(&self, f: &mut fmt::Formatter<W>) -> fmt::Result {
+        match self {
+            Differs::Answer => write!(f, "feed's answer"),
+            Differs::Output => write!(f, "feed's output"),
+            Differs::State => write!(f, "feed's state"),
+            Differs::Closed => write!(f, "close's answer"),
         }
-        i += 1;
     }
-    true
 }
 
-// Whether an output has a text at its front, and its other bytes are as they were.
-fn is_written(out: &[u8], text: &[u8]) -> bool
-    requires { length text.now ≤ length out.now }
-{
-    let n = text.len();
-    check::same(text, part(out, 0, n)) && is_untouched(part(out, n, out.len()))
+// What a feed must come to: its number, the state after it, and the text that it writes.
+#[derive(Clone, Copy)]
+pub(crate) struct Wanted<'a> {
+    number: u32,
+    state: State,
+    text: &'a [u8],
 }
 
-// Whether two tails are the same.
-fn same_tail(a: Tail, b: Tail) -> bool {
-    let x = a.bytes;
-    let y = b.bytes;
-    a.count == b.count && check::same(&x, &y)
-}
-
-// Whether all six tallies are the same.
-fn same_tallies(a: Tallies, b: Tallies) -> bool {
-    a.rule == b.rule
-        && a.whole == b.whole
-        && a.edge == b.edge
-        && a.fast == b.fast
-        && a.slow == b.slow
-        && a.bad == b.bad
-}
-
-// Whether two states are the same.
-fn same_state(a: State, b: State) -> bool {
-    let s = a.tail;
-    let t = b.tail;
-    let u = a.tallies;
-    let v = b.tallies;
-    a.lines == b.lines && same_tail(s, t) && same_tallies(u, v)
-}
-
-// What a feed's answer and its output differ in from a number, a state and the text written.
-pub(crate) fn fed_differs(fed: Fed, out: &[u8], number: u32, state: State, text: &[u8]) -> Differs
-    requires { length text.now ≤ length out.now }
-{
-    let verdict = fed.verdict;
-    if batch::feed_number(verdict) != number || wrote(verdict) != text.len() {
-        return Differs::Answer;
+// Whether an output has a text at its front, and its other bytes are as they were before the feed.
+fn is_written(out: &[u8], text: &[u8]) -> bool {
+    match out.strip_prefix(text) {
+        Some(rest) => rest.iter().all(|b| *b == MARK),
+        None => false,
     }
-    if !is_written(out, text) {
-        return Differs::Output;
+}
+
+impl<'a> Wanted<'a> {
+    // A piece is taken: the state after it, and the text that is written.
+    pub(crate) fn taken(state: State, text: &'a [u8]) -> Wanted<'a> {
+        Wanted {
+            number: 0,
+            state,
+            text,
+        }
     }
-    if same_state(fed.state, state) {
-        Differs::Nothing
-    } else {
-        Differs::State
+
+    // A piece is refused: the state, which stays, and the number of the refusal.
+    pub(crate) fn refused(state: State, number: u32) -> Wanted<'a> {
+        Wanted {
+            number,
+            state,
+            text: b"",
+        }
+    }
+
+    // What a feed's answer, its output and its state differ in.
+    pub(crate) fn differs(&self, fed: &Fed, out: &[u8]) -> Result<(), Differs> {
+        let verdict = fed.verdict;
+        if batch::feed_number(verdict) != self.number || verdict.unwrap_or(0) != self.text.len() {
+            return Err(Differs::Answer);
+        }
+        if !is_written(out, self.text) {
+            return Err(Differs::Output);
+        }
+        if fed.state != self.state {
+            return Err(Differs::State);
+        }
+        Ok(())
     }
 }
 
 // What a close's answer differs in from a number.
-pub(crate) fn close_differs(state: State, number: u32) -> Differs {
+pub(crate) fn close_differs(state: State, number: u32) -> Result<(), Differs> {
     if batch::close_number(batch::close(state)) == number {
-        Differs::Nothing
+        Ok(())
     } else {
-        Differs::Closed
+        Err(Differs::Closed)
     }
 }

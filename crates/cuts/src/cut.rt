@@ -1,104 +1,81 @@
 // The batch whole, cut in two at every place, and byte by byte.
-ghost use Rattle.std.specs.Prelude.{◌≤◌, ◌<◌, length};
-ghost use Rattle.cuts.specs.Limits.{room};
+ghost use Rattle.std.specs.Prelude.{◌≤◌, length};
 
-use crate::compare::Differs;
-use crate::expected::{feeds, lines_end, part, state_at};
-use crate::report::{Seen, none_seen, note_feed};
-use crate::single::{check_close, check_refused, check_taken, feed_differs};
+use crate::compare::{Differs, Wanted};
+use crate::expected::{Batch, feeds, split_lines};
+use crate::report::Seen;
+use crate::single::Given;
 use crate::{MARK, ROOM};
 use batch::State;
 
 // Feeds the batch whole.
-pub(crate) fn check_whole(input: &[u8], answers: &[u8]) -> Seen
-    requires { length answers.now ≤ room }
-{
-    let after = state_at(input, answers, input.len());
-    check_taken(none_seen(), batch::fresh(), input, ROOM, after, answers)
-}
-
-// Feeds a piece to an output that is a byte short, and then to one that is just long enough.
-fn again_differs(state: State, piece: &[u8], out: &mut [u8], after: State, text: &[u8]) -> Differs
-    requires text_nonzero { 0 < length text.now }
-    requires text_in_bounds { length text.now ≤ length out.old }
-{
-    let n = text.len();
-    let refused = feed_differs(state, piece, out, n - 1, 7, state, b"");
-    let Differs::Nothing = refused else {
-        return refused;
-    };
-    feed_differs(state, piece, out, n, 0, after, text)
+pub(crate) fn check_whole(batch: &Batch) -> Seen {
+    let given = Given::new(State::fresh(), batch.input, ROOM);
+    let after = batch.state_at(batch.input.len());
+    let mut seen = Seen::default();
+    seen.taken(given, after, batch.answers);
+    seen
 }
 
 // Feeds a piece to outputs of every kind. Where it has no answers, the one that is just long enough is
 // empty.
-fn check_outputs(seen: Seen, state: State, piece: &[u8], after: State, text: &[u8]) -> Seen
-    requires { length text.now ≤ room }
-{
-    let n = text.len();
-    let mut next = check_taken(seen, state, piece, ROOM, after, text);
-    next = check_taken(next, state, piece, n, after, text);
-    if n == 0 {
-        return next;
-    }
-    next = check_refused(next, state, piece, 0, 7);
+fn check_outputs(seen: &mut Seen, state: State, piece: &[u8], after: State, text: &[u8]) {
+    let enough = Given::new(state, piece, text.len());
+    seen.taken(Given::new(state, piece, ROOM), after, text);
+    seen.taken(enough, after, text);
+    let Some(less) = text.len().checked_sub(1) else {
+        return;
+    };
+    seen.refused(Given::new(state, piece, 0), 7);
+    let short = Given::new(state, piece, less);
+    seen.note_feed(again_differs(short, enough, after, text));
+}
+
+// Feeds a piece to an output that is a byte short, and then to one that is just long enough.
+fn again_differs(short: Given, enough: Given, after: State, text: &[u8]) -> Result<(), Differs> {
     let mut out = [MARK; ROOM];
-    note_feed(next, again_differs(state, piece, &mut out, after, text))
+    short.differs(&mut out, &Wanted::refused(short.state, 7))?;
+    enough.differs(&mut out, &Wanted::taken(after, text))
 }
 
 // Feeds the bytes from one place to another. The state before them is the one expected there: that
 // the bytes before them leave it has been checked in every field.
-fn check_piece(seen: Seen, input: &[u8], answers: &[u8], from: usize, to: usize) -> Seen
-    requires from_le_to { (from ≤ to) × (to ≤ length input.now) }
-    requires answers_len_bound { length answers.now ≤ room }
+fn check_piece(seen: &mut Seen, batch: &Batch, from: usize, to: usize)
+    requires { (from ≤ to) × (to ≤ length batch.now.input.now) }
 {
-    let state = state_at(input, answers, from);
-    let after = state_at(input, answers, to);
-    let piece = part(input, from, to);
-    let start = lines_end(answers, state.lines);
-    let rest = part(answers, start, answers.len());
-    let text = part(rest, 0, lines_end(rest, feeds(piece)));
+    let state = batch.state_at(from);
+    let after = batch.state_at(to);
+    let piece = &batch.input[from..to];
+    let (_, rest) = split_lines(batch.answers, state.lines);
+    let (text, _) = split_lines(rest, feeds(piece));
     check_outputs(seen, state, piece, after, text)
 }
 
 // Closes where a line may be unfinished.
-fn check_end(seen: Seen, state: State) -> Seen {
-    let tail = state.tail;
-    let number = if tail.count == 0 { 0 } else { 8 };
-    check_close(seen, state, number)
+fn check_end(seen: &mut Seen, state: State) {
+    let number = if state.tail.count == 0 { 0 } else { 8 };
+    seen.closed(state, number);
 }
 
-// Cuts at a place, and closes there.
-fn check_place(seen: Seen, input: &[u8], answers: &[u8], place: usize) -> Seen
-    requires place_in_bounds { place ≤ length input.now }
-    requires answers_len_bound { length answers.now ≤ room }
-{
-    let mut next = seen;
-    next.place = place;
-    next = check_piece(next, input, answers, 0, place);
-    next = check_end(next, state_at(input, answers, place));
-    check_piece(next, input, answers, place, input.len())
-}
-
-// Cuts at every place, before the first byte and after the last too.
-pub(crate) fn check_places(input: &[u8], answers: &[u8]) -> Seen
-    requires { length answers.now ≤ room }
-{
-    let mut seen = none_seen();
-    for place in 0..=input.len() {
-        seen = check_place(seen, input, answers, place);
+// Cuts at every place, before the first byte and after the last too, and closes there.
+pub(crate) fn check_places(batch: &Batch) -> Seen {
+    let mut seen = Seen::default();
+    let end = batch.input.len();
+    for place in 0..=end {
+        seen.place = place;
+        check_piece(&mut seen, batch, 0, place);
+        check_end(&mut seen, batch.state_at(place));
+        check_piece(&mut seen, batch, place, end);
     }
     seen
 }
 
 // Feeds byte by byte.
-pub(crate) fn check_bytes(input: &[u8], answers: &[u8]) -> Seen
-    requires { length answers.now ≤ room }
-{
-    let mut seen = none_seen();
-    for place in 0..input.len() {
+pub(crate) fn check_bytes(batch: &Batch) -> Seen {
+    let mut seen = Seen::default();
+    for place in 0..batch.input.len() {
         seen.place = place;
-        seen = check_piece(seen, input, answers, place, place + 1);
+        check_piece(&mut seen, batch, place, place + 1);
     }
     seen
 }

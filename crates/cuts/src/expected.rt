@@ -1,46 +1,39 @@
 // The state that the reader must hold, told from the bytes that it has been fed and from their
 // answers as text.
-ghost use Rattle.std.specs.Prelude.{◌≡◌, ◌-◌, ◌≤◌, length};
+ghost use Rattle.std.specs.Prelude.{◌≤◌, length};
 
-use crate::report::more;
 use batch::{OVER_LONG, State, Tail, Tallies};
 use lines::LONGEST;
 
-// The bytes of s from one place to another.
-pub(crate) fn part(s: &[u8], from: usize, to: usize) -> &[u8]
-    requires { (from ≤ to) × (to ≤ length s.now) }
-    ensures result_len { length result.now ≡ to - from }
-    ensures result_in_bounds { length result.now ≤ length s.now }
-{
-    &s[from..to]
+// The batch: its bytes, and the answers that feeding it whole wrote.
+#[derive(Clone, Copy)]
+pub(crate) struct Batch<'a> {
+    pub input: &'a [u8],
+    pub answers: &'a [u8],
+}
+
+// A number as a u32, the largest where it is larger.
+fn counted(n: usize) -> u32 {
+    u32::try_from(n).unwrap_or(u32::MAX)
 }
 
 // How many line feeds there are.
 pub(crate) fn feeds(s: &[u8]) -> u32 {
-    let mut n = 0;
-    let mut i = 0;
-    while i < s.len() {
-        if s[i] == b'\n' {
-            n = more(n);
-        }
-        i += 1;
-    }
-    n
+    counted(s.iter().filter(|b| **b == b'\n').count())
 }
 
-// The place after the first n lines, or the length where there are fewer.
-pub(crate) fn lines_end(s: &[u8], n: u32) -> usize
-    ensures { result ≤ length s.now }
-{
+// The first n lines, and what follows them. Where there are fewer, nothing follows.
+pub(crate) fn split_lines(s: &[u8], n: u32) -> (&[u8], &[u8]) {
     let mut left = n;
-    let mut i = 0;
-    while i < s.len() && left > 0 {
-        if s[i] == b'\n' {
+    for (i, b) in s.iter().enumerate() {
+        if left == 0 {
+            return s.split_at(i);
+        }
+        if *b == b'\n' {
             left -= 1;
         }
-        i += 1;
     }
-    i
+    (s, b"")
 }
 
 // The tail that holds an unfinished line.
@@ -52,11 +45,7 @@ fn held(line: &[u8]) -> Tail {
             count: OVER_LONG,
         };
     }
-    let mut i = 0;
-    while i < line.len() {
-        bytes[i] = line[i];
-        i += 1;
-    }
+    bytes[..line.len()].copy_from_slice(line);
     Tail {
         bytes,
         count: line.len() as u32,
@@ -65,15 +54,12 @@ fn held(line: &[u8]) -> Tail {
 
 // How many lines have this letter as the fourth from their end.
 fn endings(answers: &[u8], letter: u8) -> u32 {
-    let mut n = 0;
-    let mut i = 4;
-    while i < answers.len() {
-        if answers[i] == b'\n' && answers[i - 4] == letter {
-            n = more(n);
-        }
-        i += 1;
-    }
-    n
+    counted(
+        answers
+            .windows(5)
+            .filter(|end| matches!(end, [b, _, _, _, b'\n'] if *b == letter))
+            .count(),
+    )
 }
 
 // The tallies of answer lines, which end in via=rule, via=whole, via=edge, via=fast, via=slow or are
@@ -89,17 +75,19 @@ fn tallied(answers: &[u8]) -> Tallies {
     }
 }
 
-// The state after the first bytes of the batch.
-pub(crate) fn state_at(input: &[u8], answers: &[u8], place: usize) -> State
-    requires { place ≤ length input.now }
-{
-    let first = part(input, 0, place);
-    let lines = feeds(first);
-    let tail = held(part(first, lines_end(first, lines), place));
-    let tallies = tallied(part(answers, 0, lines_end(answers, lines)));
-    State {
-        tail,
-        lines,
-        tallies,
+impl Batch<'_> {
+    // The state after the first bytes of the batch.
+    pub(crate) fn state_at(&self, place: usize) -> State
+        requires { place ≤ length self.now.input.now }
+    {
+        let first = &self.input[..place];
+        let lines = feeds(first);
+        let (_, line) = split_lines(first, lines);
+        let (answers, _) = split_lines(self.answers, lines);
+        State {
+            tail: held(line),
+            lines,
+            tallies: tallied(answers),
+        }
     }
 }

@@ -1,13 +1,9 @@
 // States made by hand.
-ghost use Rattle.std.specs.Prelude.{◌≤◌, ◌<◌};
-ghost use Rattle.lines.specs.Format.{longest};
-ghost use Rattle.state.specs.Holding.{over_long};
-ghost use Rattle.cuts.specs.Limits.{room};
+ghost use Rattle.std.specs.Prelude.{◌<◌};
 
 use crate::ROOM;
-use crate::expected::part;
-use crate::report::{Seen, none_seen};
-use crate::single::{check_close, check_refused, check_taken};
+use crate::report::Seen;
+use crate::single::Given;
 use batch::{MOST_LINES, OVER_LONG, State, Tail, Tallies};
 use lines::LONGEST;
 
@@ -22,7 +18,7 @@ const LONG: usize = OVER_LONG as usize;
 
 // A tail whose bytes are zero but for one.
 fn tail_with(count: u32, place: usize, byte: u8) -> Tail
-    requires { place < longest }
+    requires { place < LONGEST }
 {
     let mut bytes = [0u8; LONGEST];
     bytes[place] = byte;
@@ -37,8 +33,8 @@ fn zeros(count: u32) -> Tail {
     }
 }
 
-// Six tallies.
-fn tallies(rule: u32, whole: u32, edge: u32, fast: u32, slow: u32, bad: u32) -> Tallies {
+// Six tallies: of rule, whole, edge, fast, slow and bad.
+fn tallies([rule, whole, edge, fast, slow, bad]: [u32; 6]) -> Tallies {
     Tallies {
         rule,
         whole,
@@ -49,140 +45,151 @@ fn tallies(rule: u32, whole: u32, edge: u32, fast: u32, slow: u32, bad: u32) -> 
     }
 }
 
-// A state of these.
-fn made(tail: Tail, lines: u32, counts: Tallies) -> State {
+// A state whose lines are all bad.
+fn all_bad(tail: Tail, lines: u32) -> State {
     State {
         tail,
         lines,
-        tallies: counts,
+        tallies: tallies([0, 0, 0, 0, 0, lines]),
     }
 }
 
-// A state whose lines are all bad.
-fn all_bad(tail: Tail, lines: u32) -> State {
-    made(tail, lines, tallies(0, 0, 0, 0, 0, lines))
-}
-
-// Feeds line feeds that must be refused.
-fn check_feeds(seen: Seen, state: State, n: usize, space: usize, number: u32) -> Seen
-    requires n_bound { n ≤ 2 }
-    requires space_le_room { space ≤ room }
-{
-    let piece = b"\n\n";
-    check_refused(seen, state, part(piece, 0, n), space, number)
-}
-
 // Feeds and closes a broken state: 5 comes before all else.
-fn check_state(seen: Seen, state: State) -> Seen {
-    let line = b"id=7 x=3f000000 y=40000000\n";
-    let mut next = check_refused(seen, state, line, ROOM, 5);
-    next = check_feeds(next, state, 1, ROOM, 5);
-    next = check_feeds(next, state, 1, 5, 5);
-    next = check_feeds(next, state, 1, 0, 5);
-    next = check_feeds(next, state, 0, ROOM, 5);
-    check_close(next, state, 5)
+fn check_state(seen: &mut Seen, state: State) {
+    let feeds: [(&[u8], usize); 5] = [
+        (b"id=7 x=3f000000 y=40000000\n", ROOM),
+        (b"\n", ROOM),
+        (b"\n", 5),
+        (b"\n", 0),
+        (b"", ROOM),
+    ];
+    for (piece, space) in feeds {
+        seen.refused(Given::new(state, piece, space), 5);
+    }
+    seen.closed(state, 5);
 }
 
-// A broken tail, without lines and with as many as there can be.
-fn check_tail(seen: Seen, tail: Tail) -> Seen {
-    let next = check_state(seen, all_bad(tail, 0));
-    check_state(next, all_bad(tail, MOST_LINES))
+// Tails that no feed leaves, without lines and with as many as there can be: a count past the over-long
+// mark, a line feed, a byte past the count, a byte at the mark.
+fn check_tails(seen: &mut Seen) {
+    let tails = [
+        zeros(OVER_LONG + 1),
+        zeros(u32::MAX),
+        tail_with(5, 2, b'\n'),
+        tail_with(FULL, LAST, b'\n'),
+        tail_with(0, LAST, b'\n'),
+        tail_with(3, 3, 1),
+        tail_with(0, 0, b'i'),
+        tail_with(FULL - 1, LAST, 255),
+        tail_with(OVER_LONG, 0, b'i'),
+        tail_with(OVER_LONG, LAST, 1),
+    ];
+    for tail in tails {
+        check_state(seen, all_bad(tail, 0));
+        check_state(seen, all_bad(tail, MOST_LINES));
+    }
 }
 
-// Tallies that do not add up, with an empty tail and with an over-long line.
-fn check_sum(seen: Seen, lines: u32, counts: Tallies) -> Seen {
-    let next = check_state(seen, made(zeros(0), lines, counts));
-    check_state(next, made(zeros(OVER_LONG), lines, counts))
-}
-
-// Tails that no feed leaves: a count past the over-long mark, a line feed, a byte past the count, a
-// byte at the mark.
-fn check_tails(seen: Seen) -> Seen {
-    let mut next = check_tail(seen, zeros(OVER_LONG + 1));
-    next = check_tail(next, zeros(0xffff_ffff));
-    next = check_tail(next, tail_with(5, 2, b'\n'));
-    next = check_tail(next, tail_with(FULL, LAST, b'\n'));
-    next = check_tail(next, tail_with(0, LAST, b'\n'));
-    next = check_tail(next, tail_with(3, 3, 1));
-    next = check_tail(next, tail_with(0, 0, b'i'));
-    next = check_tail(next, tail_with(FULL - 1, LAST, 255));
-    next = check_tail(next, tail_with(OVER_LONG, 0, b'i'));
-    check_tail(next, tail_with(OVER_LONG, LAST, 1))
-}
-
-// Tallies that do not add up to the lines: one too many in each place, one too few, none; and
-// twice tallies that come to the lines where 32 bits hold the sum.
-fn check_sums(seen: Seen) -> Seen {
+// Tallies that do not add up to the lines, with an empty tail and with an over-long line: one too many
+// in each place, one too few, none; and twice tallies that come to the lines where 32 bits hold the sum.
+fn check_sums(seen: &mut Seen) {
     let most = MOST_LINES;
-    let mut next = check_sum(seen, 0, tallies(1, 0, 0, 0, 0, 0));
-    next = check_sum(next, 0, tallies(0, 1, 0, 0, 0, 0));
-    next = check_sum(next, 0, tallies(0, 0, 1, 0, 0, 0));
-    next = check_sum(next, 0, tallies(0, 0, 0, 1, 0, 0));
-    next = check_sum(next, 0, tallies(0, 0, 0, 0, 1, 0));
-    next = check_sum(next, 0, tallies(0, 0, 0, 0, 0, 1));
-    next = check_sum(next, 7, tallies(1, 1, 1, 1, 1, 1));
-    next = check_sum(next, most, tallies(0, 0, 0, 0, 0, 0));
-    next = check_sum(next, 0, tallies(most, 1, 0, 0, 0, 0));
-    check_sum(next, most, tallies(most, most, 1, 0, 0, 0))
+    let sums = [
+        (0, [1, 0, 0, 0, 0, 0]),
+        (0, [0, 1, 0, 0, 0, 0]),
+        (0, [0, 0, 1, 0, 0, 0]),
+        (0, [0, 0, 0, 1, 0, 0]),
+        (0, [0, 0, 0, 0, 1, 0]),
+        (0, [0, 0, 0, 0, 0, 1]),
+        (7, [1, 1, 1, 1, 1, 1]),
+        (most, [0, 0, 0, 0, 0, 0]),
+        (0, [most, 1, 0, 0, 0, 0]),
+        (most, [most, most, 1, 0, 0, 0]),
+    ];
+    for (lines, counts) in sums {
+        for count in [0, OVER_LONG] {
+            let state = State {
+                tail: zeros(count),
+                lines,
+                tallies: tallies(counts),
+            };
+            check_state(seen, state);
+        }
+    }
 }
 
 // Broken states.
 pub(crate) fn check_broken() -> Seen {
-    check_sums(check_tails(none_seen()))
+    let mut seen = Seen::default();
+    check_tails(&mut seen);
+    check_sums(&mut seen);
+    seen
 }
 
-// Feeds bytes of a line that must be held.
-fn check_held(seen: Seen, state: State, n: usize, space: usize, tail: Tail) -> Seen
-    requires n_le_over_long { n ≤ over_long }
-    requires space_le_room { space ≤ room }
-{
-    let piece = [b'0'; LONG];
-    let counts = state.tallies;
-    let after = made(tail, state.lines, counts);
-    check_taken(seen, state, part(&piece, 0, n), space, after, b"")
+// A state with as many lines as there can be: no line feed is taken, and bytes of a line are held.
+fn check_full(seen: &mut Seen) {
+    let state = State {
+        tail: zeros(0),
+        lines: MOST_LINES,
+        tallies: tallies([1, 2, 3, 4, 5, MOST_LINES - 15]),
+    };
+    let refused: [(&[u8], usize); 3] = [(b"\n", ROOM), (b"\n", 0), (b"i\n\n", ROOM)];
+    for (piece, space) in refused {
+        seen.refused(Given::new(state, piece, space), 6);
+    }
+    let held: [(&[u8], usize, Tail); 3] = [
+        (b"", 0, zeros(0)),
+        (b"0", 0, tail_with(1, 0, b'0')),
+        (&[b'0'; LONG], ROOM, zeros(OVER_LONG)),
+    ];
+    for (piece, space, tail) in held {
+        seen.taken(
+            Given::new(state, piece, space),
+            State { tail, ..state },
+            b"",
+        );
+    }
 }
 
-// A state with as many lines as there can be: no line feed is taken, and all else is.
-fn check_full(seen: Seen) -> Seen {
-    let counts = tallies(1, 2, 3, 4, 5, MOST_LINES - 15);
-    let state = made(zeros(0), MOST_LINES, counts);
-    let mut next = check_feeds(seen, state, 1, ROOM, 6);
-    next = check_feeds(next, state, 1, 0, 6);
-    next = check_refused(next, state, b"i\n\n", ROOM, 6);
-    next = check_held(next, state, 0, 0, zeros(0));
-    next = check_held(next, state, 1, 0, tail_with(1, 0, b'0'));
-    check_held(next, state, LONG, ROOM, zeros(OVER_LONG))
-}
-
-// Feeds an empty line that must be answered, and makes the lines as many as there can be.
-fn check_empty(seen: Seen, state: State, space: usize) -> Seen
-    requires { space ≤ room }
-{
-    let full = all_bad(zeros(0), MOST_LINES);
-    check_taken(seen, state, b"\n", space, full, b"bad=2\n")
-}
-
-// A state with room for one line more: it is taken where the output has room, and two are not.
-fn check_last(seen: Seen) -> Seen {
+// A state with room for one line more: an empty line is taken where the output has room, and two are
+// not.
+fn check_last(seen: &mut Seen) {
     let state = all_bad(zeros(0), MOST_LINES - 1);
-    let mut next = check_empty(seen, state, ROOM);
-    next = check_empty(next, state, 6);
-    next = check_feeds(next, state, 1, 5, 7);
-    next = check_feeds(next, state, 1, 0, 7);
-    next = check_feeds(next, state, 2, ROOM, 6);
-    check_feeds(next, state, 2, 0, 6)
+    let full = all_bad(zeros(0), MOST_LINES);
+    for space in [ROOM, 6] {
+        seen.taken(Given::new(state, b"\n", space), full, b"bad=2\n");
+    }
+    let refused: [(&[u8], usize, u32); 4] = [
+        (b"\n", 5, 7),
+        (b"\n", 0, 7),
+        (b"\n\n", ROOM, 6),
+        (b"\n\n", 0, 6),
+    ];
+    for (piece, space, number) in refused {
+        seen.refused(Given::new(state, piece, space), number);
+    }
 }
 
 // States at the most lines.
 pub(crate) fn check_most() -> Seen {
-    check_last(check_full(none_seen()))
+    let mut seen = Seen::default();
+    check_full(&mut seen);
+    check_last(&mut seen);
+    seen
 }
 
 // Closes: at the start and after whole lines, in a line, in an over-long line.
 pub(crate) fn check_closes() -> Seen {
-    let mut seen = check_close(none_seen(), batch::fresh(), 0);
-    seen = check_close(seen, all_bad(zeros(0), MOST_LINES), 0);
-    seen = check_close(seen, all_bad(tail_with(1, 0, b'i'), 0), 8);
-    seen = check_close(seen, all_bad(zeros(FULL), 3), 8);
-    check_close(seen, all_bad(zeros(OVER_LONG), 3), 8)
+    let closes = [
+        (State::fresh(), 0),
+        (all_bad(zeros(0), MOST_LINES), 0),
+        (all_bad(tail_with(1, 0, b'i'), 0), 8),
+        (all_bad(zeros(FULL), 3), 8),
+        (all_bad(zeros(OVER_LONG), 3), 8),
+    ];
+    let mut seen = Seen::default();
+    for (state, number) in closes {
+        seen.closed(state, number);
+    }
+    seen
 }

@@ -1,7 +1,7 @@
 -- The index of the inverse: t lies in the slot of its index i, from (i + 45)/64 to (i + 46)/64 and a little more, so that r × t for the inverse r of that index is
 -- within 1/64 of 1 and a little more, by a test that is computed over the table; and so is what `dd_fmla` gives for r × t - 1 (`inverse_slot`). Assumes
 -- nothing.
-use Rattle.std.proofs.Common.{◌≡◌, ℕ, ◌+◌, ◌-◌, ◌*◌, ◌/◌, ◌^◌, ◌<◌, ◌≤◌, Bool, true, ◌&&◌, T, leb, sym, refl, ap, ◌∙◌, subst, le_trans, le_of_eq, le_of_lt, le_antisymm, mul-pos, arith, lit<, false}
+use Rattle.std.proofs.Common.{rules, ◌≡◌, ℕ, ◌+◌, ◌-◌, ◌*◌, ◌/◌, ◌^◌, ◌<◌, ◌≤◌, Bool, ◌&&◌, T, leb, sym, refl, ap, ◌∙◌, subst, le_trans, le_of_eq, le_of_lt, le_antisymm, mul-pos, arith, lit<}
 use lib.Ieee.{Float, binary64, fits, to_bits, of_bits}
 use Rattle.floats.specs.Operations.{◌⊕◌, ◌⊗◌, f64}
 use Rattle.double_double.specs.DoubleDouble.{dd_fmla}
@@ -54,21 +54,15 @@ record FitsSlot (k : ℕ) (r : Float) : Type 0 where
   low : T (product_fits of_r ((k + 45) * 2 ^ 47 - 4) lowest)
   high : T (leb (product_k of_r ((k + 46) * 2 ^ 47 + 4)) highest)
 
-six : (a b c d e f : Bool) → T (a && b && c && d && e && f) → T a × T b × T c × T d × T e × T f
-six true true true true true true h = (tt, tt, tt, tt, tt, tt)
-six false b c d e f h = elim h [ ]
-six true false c d e f h = elim h [ ]
-six true true false d e f h = elim h [ ]
-six true true true false e f h = elim h [ ]
-six true true true true false f h = elim h [ ]
-six true true true true true false h = elim h [ ]
-
 inverse_fits : (k : ℕ) → k < 46 → FitsSlot k (entry log2p1_compoundf_inv k)
 unfolding entry log2p1_compoundf_inv of_bits fits
 inverse_fits k h =
     let n = number k in
     let o = six (between n n (entry log2p1_compoundf_inv k)) (leb n (3 * 2 ^ 52)) (ok n) (ok ((k + 46) * 2 ^ 47 + 4)) (product_fits n ((k + 45) * 2 ^ 47 - 4) lowest) (leb (product_k n ((k + 46) * 2 ^ 47 + 4)) highest) (carried 46 fits_slot tt k h) in
     record { of_r = n; positive = tested_positive n n (entry log2p1_compoundf_inv k) o.0; small = o.1; r_ok = o.2; slot_ok = o.3; low = o.4; high = o.5 }
+  where
+    six : (a b c d e f : Bool) → T (a && b && c && d && e && f) → T a × T b × T c × T d × T e × T f
+    six a b c d e f h = search rules
 
 -- at most 3/2
 pub inverse_size : (k : ℕ) → k < 46 → Bound S (3 * 2 ^ 52) (entry log2p1_compoundf_inv k)

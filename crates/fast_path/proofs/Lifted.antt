@@ -1,6 +1,6 @@
 -- k×2^52 by a natural number: for k from -1000 to 1000, k + 4096 is one, and adding its last twelve digits times 2^52 is adding
 -- k×2^52, since 4096×2^52 is 2^64. Assumes nothing.
-use Rattle.std.proofs.Common.{◌≡◌, ℕ, suc, ◌+◌, ◌-◌, ◌*◌, ◌%◌, ◌<◌, ◌≤◌, ℤ, pos, negsuc, sym, subst, lt_of_le_of_lt, arith, lit<, w64, to_z, of_z}
+use Rattle.std.proofs.Common.{◌≡◌, ℕ, suc, ◌+◌, ◌-◌, ◌*◌, ◌%◌, ◌<◌, ◌≤◌, ℤ, pos, negsuc, lt_of_le_of_lt, arith, lit<, w64, to_z, of_z}
 use lib.Signed.{mag}
 use mir.ValLaws.{to_z-of_z}
 use Rattle.fast_path.specs.Scaling.{scaled, Within}
@@ -29,7 +29,3 @@ within_read k h = to_z-of_z w64 k (record { sfits = lt_of_le_of_lt (small k h) (
     small : (k : ℤ) → Within 1000 k → mag k ≤ 1000
     small (pos n) h = h
     small (negsuc n) h = omega (arith, h)
-
--- and is within the same bounds then
-pub within_cast : (k : ℤ) → Within 1000 k → Within 1000 (to_z w64 (of_z w64 k))
-within_cast k h = subst (Within 1000) (sym (within_read k h)) h

@@ -1,6 +1,6 @@
 -- r × t - 1 for an inverse r of the table, without Dekker's product. r is a whole number of 2^-8 and below 2, so that its products with the two parts of t are exact, whichever parts they
 -- are; and so is all else that `dd_fmla` does until its last sum. So its result is r × t - 1 exactly, rounded once, and that is what the plain form gives (`minus_one_same`). Assumes nothing.
-use Rattle.std.proofs.Common.{◌≡◌, ℕ, ◌+◌, ◌*◌, ◌/◌, ◌^◌, ◌<◌, ◌≤◌, Bool, true, false, ◌&&◌, T, eqb, leb, pos, sym, refl, ap, ◌∙◌, subst, ap₂, le_trans, le_of_eq, le_refl, add-le-add, lt_irrefl, mul-le-mul_right, mul-le-mul, mul-le-mul_left, le_of_mul-le-mul_right, arith, lit<, lit≤, eqb→eq, leb→le}
+use Rattle.std.proofs.Common.{rules, ◌≡◌, ℕ, ◌+◌, ◌*◌, ◌/◌, ◌^◌, ◌<◌, ◌≤◌, Bool, false, ◌&&◌, T, eqb, leb, pos, sym, refl, ap, ◌∙◌, subst, ap₂, le_trans, le_of_eq, le_refl, add-le-add, lt_irrefl, mul-le-mul_right, mul-le-mul, mul-le-mul_left, le_of_mul-le-mul_right, arith, lit<, lit≤, eqb→eq, leb→le}
 use native.Mathlib.Nat.{mul-mul-mul_comm}
 use lib.Ieee.{Float, fin, binary64, neg, sub, fits, of_bits}
 use lib.Ieee.Scale.{finite}
@@ -134,10 +134,6 @@ module _ {R T : ℕ} {r h l : Float} (a : Count unit8 R 0 r) (few : R ≤ 2 ^ 9)
       go x y h = omega arith
 
 -- ---- the plain form
-one_count : Count unit34 (2 ^ 34) 0 one
-unfolding unit34
-one_count = record { number = record { held = unfold fits in tt; plain = tt }; is = refl }
-
 minus_one_34 : Count unit34 0 (2 ^ 34) minus_one
 unfolding unit34
 minus_one_34 = record { number = record { held = unfold fits in tt; plain = tt }; is = refl }
@@ -288,19 +284,15 @@ record Inverse (r : Float) : Type 0 where
   few : R ≤ 2 ^ 9
   count : Count unit8 R 0 r
 
-inverse_is : (k : ℕ) → k < 46 → Inverse (entry log2p1_compoundf_inv k)
-unfolding entry log2p1_compoundf_inv of_bits fits unit8
-inverse_is k h =
+tested_inverse : (k : ℕ) → T (has_few k) → Inverse (entry log2p1_compoundf_inv k)
+unfolding unit8
+tested_inverse k t =
     let x = entry log2p1_compoundf_inv k in
-    let o = four (fits binary64 x) (finite x) (eqb (plus x + 0 * 2 ^ 1066) (less x + number k * 2 ^ 1066)) (leb (number k) (2 ^ 9)) (carried 46 has_few tt k h) in
-    record { R = number k; few = leb→le (number k) (2 ^ 9) o.3; count = record { number = record { held = o.0; plain = o.1 }; is = eqb→eq (plus x + 0 * 2 ^ 1066) (less x + number k * 2 ^ 1066) o.2 } }
-  where
-    four : (a b c d : Bool) → T (a && b && c && d) → T a × T b × T c × T d
-    four true true true true h = (tt, tt, tt, tt)
-    four false b c d h = elim h [ ]
-    four true false c d h = elim h [ ]
-    four true true false d h = elim h [ ]
-    four true true true false h = elim h [ ]
+    record { R = number k; few = leb→le (number k) (2 ^ 9) (search rules); count = record { number = record { held = search rules; plain = search rules }; is = eqb→eq (plus x + 0 * 2 ^ 1066) (less x + number k * 2 ^ 1066) (search rules) } }
+
+inverse_is : (k : ℕ) → k < 46 → Inverse (entry log2p1_compoundf_inv k)
+unfolding entry log2p1_compoundf_inv of_bits fits
+inverse_is k h = tested_inverse k (carried 46 has_few tt k h)
 
 -- the rounded product
 near_of : {R T Q : ℕ} {r t : Float} → Count unit8 R 0 r → Count S T 0 t → Count S Q 0 (r ⊗ t) → R ≤ 2 ^ 9 → T ≤ 3 * 2 ^ 52 → (R * T ≤ Q * 2 ^ 8 + 2 ^ 11) × (Q * 2 ^ 8 ≤ R * T + 2 ^ 11)

@@ -58,16 +58,10 @@ one_pos = mul-pos (lit< tt) S_pos
 
 -- ---- the outcomes of the tests for the edges, from t in units
 pub not_low : {t : Float} → Number t → less t < 150 * (2 ^ 53 * S) + plus t → le t (fin true 75 (pos 1)) ≡ false
-not_low {t} n h = le_false n lower_edge.0 (go (plus t) (less t) (plus (fin true 75 (pos 1))) (less (fin true 75 (pos 1))) (150 * (2 ^ 53 * S)) lower_edge.1 (lower_edge.2 ∙ mul_assoc 150 (2 ^ 53) S) h)
-  where
-    go : (p n q m k : ℕ) → q ≡ 0 → m ≡ k → n < k + p → q + n < p + m
-    go p n q m k e f h = omega arith
+not_low {t} n h = le_false n lower_edge.0 (omega (arith, lower_edge.2 ∙ mul_assoc 150 (2 ^ 53) S))
 
 pub not_high : {t : Float} → Number t → plus t < 128 * (2 ^ 53 * S) + less t → lt t (fin false 1 (pos 7)) ≡ true
-not_high {t} n h = lt_true n upper_edge.0 (go (plus t) (less t) (plus (fin false 1 (pos 7))) (less (fin false 1 (pos 7))) (128 * (2 ^ 53 * S)) upper_edge.1 (upper_edge.2 ∙ mul_assoc 128 (2 ^ 53) S) h)
-  where
-    go : (p n q m k : ℕ) → m ≡ 0 → q ≡ k → p < k + n → p + m < q + n
-    go p n q m k e f h = omega arith
+not_high {t} n h = lt_true n upper_edge.0 (omega (arith, upper_edge.2 ∙ mul_assoc 128 (2 ^ 53) S))
 
 -- a t of 2^-301 at least is not at the edge of 1
 shifted_place : (s : Bool) (n : ℕ) → n < 2 ^ 63 → (cond s (2 ^ 63) 0 + n) * 2 % 2 ^ 64 ≡ n * 2
@@ -82,10 +76,7 @@ not_tiny (fin s m e) n h =
     let P = place 53 K in
     let low : P < 2 ^ 63 = subst (λ (k : ℕ). k < 2 ^ 63) (bits_of_value binary64 false m e (fits_signed binary64 s false m e n.held) ∙ zero-add P) (bits_under_top binary64 m e (fits_signed binary64 s false m e n.held)) in
     let high = place_above 53 721 K (lit< tt) (le_trans h (le_of_eq (mag_of s K))) in
-    lt-leb _ _ (subst (λ (k : ℕ). 0x3e6715476ba97f14 < k) (sym (ap (λ (k : ℕ). k * 2 % 2 ^ 64) (bits_of_value binary64 s m e n.held) ∙ shifted_place s P low)) (large P high))
-  where
-    large : (P : ℕ) → 722 * 2 ^ 52 ≤ P → 0x3e6715476ba97f14 < P * 2
-    large P h = omega arith
+    lt-leb _ _ (subst (λ (k : ℕ). 0x3e6715476ba97f14 < k) (sym (ap (λ (k : ℕ). k * 2 % 2 ^ 64) (bits_of_value binary64 s m e n.held) ∙ shifted_place s P low)) (omega arith))
 
 -- ---- t is within a thousandth of t'
 thousandth : (a b c : ℕ) → a * 2 ^ 45 ≤ b * 2 ^ 45 + 33 * c → a * 1000 ≤ b * 1000 + c
@@ -113,16 +104,13 @@ pub high_edge_lem : {t t' : Float} → TimesBeside t t' → le high_edge t' ≡ 
 high_edge_lem {t} {t'} b h =
     let r = go (plus t) (less t) (plus t') (less t') (plus high_edge) (less high_edge) (2 ^ 53 * S) (one_side t') high_end.1 high_end.2 (units_of_le high_end.0 b.beside h) (under_1000 b) in
     record {
-      above = not_low b.number (over (less t) (plus t) (2 ^ 53 * S) r one_pos);
+      above = not_low b.number (omega (arith, r, one_pos));
       beyond = lt_false b.number upper_edge.0 (beyond (plus t) (less t) (plus (fin false 1 (pos 7))) (less (fin false 1 (pos 7))) (2 ^ 53 * S) upper_edge.1 (upper_edge.2 ∙ mul_assoc 128 (2 ^ 53) S) r);
     }
   where
     go : (p n q m f g s : ℕ) → (q ≡ 0) ⊎ (m ≡ 0) → g ≡ 0 → 1282 * s ≤ f * 10 → f + m ≤ q + g → (n + q) * 1000 ≤ (p + m) * 1000 + (q + m) → 128 * s + n ≤ p
     go p n q m f g s (inl e) e1 e2 h i = omega arith
     go p n q m f g s (inr e) e1 e2 h i = omega arith
-
-    over : (n p s : ℕ) → 128 * s + n ≤ p → 0 < s → n < 150 * s + p
-    over n p s h z = omega arith
 
     beyond : (p n q m s : ℕ) → m ≡ 0 → q ≡ 128 * s → 128 * s + n ≤ p → q + n ≤ p + m
     beyond p n q m s e f h = omega arith
@@ -200,7 +188,7 @@ cast_low b (fin true m e) l h n g = go (min (m * up e / down e) (2 ^ 63)) (le_mi
 
 -- scaled by such a k, a pattern is below that of 2^-126
 scaled_low : (v : ℕ) (k : ℤ) → Unscaled v → Within 150 k → AtMost 127 k → scaled v k < 0x3810000000000000
-scaled_low v k u w a = subst (λ (n : ℕ). n < 0x3810000000000000) (lifted_sum v k (wider k w)) (go v (lifted k) u.low u.high (low k w) (subst (λ (z : ℤ). lifted z ≤ 3969) (sym a.is) (high a.by a.least)))
+scaled_low v k u w a = subst (λ (n : ℕ). n < 0x3810000000000000) (lifted_sum v k (wider k w)) (omega (arith, low k w, subst (λ (z : ℤ). lifted z ≤ 3969) (sym a.is) (high a.by a.least)))
   where
     wider : (k : ℤ) → Within 150 k → Within 1000 k
     wider (pos n) h = omega (arith, h)
@@ -212,9 +200,6 @@ scaled_low v k u w a = subst (λ (n : ℕ). n < 0x3810000000000000) (lifted_sum 
 
     high : (n : ℕ) → 127 ≤ suc n → 4096 - suc n ≤ 3969
     high n h = omega arith
-
-    go : (v n : ℕ) → 1022 * 2 ^ 52 ≤ v → v < 1024 * 2 ^ 52 → 3946 ≤ n → n ≤ 3969 → (v + n % 4096 * 4503599627370496) % 18446744073709551616 < 0x3810000000000000
-    go v n g h l m = omega arith
 
 -- t from -149.7 to -127.8
 record Subnormal (t : Float) : Type 0 where
@@ -238,10 +223,7 @@ subnormal {t} {t'} b h g =
 
 module _ (t : Float) (s : Subnormal t) where
   size_t : Bound S (150 * 2 ^ 53) t
-  size_t = record { scale = unit; number = s.number; size = le_trans (go (plus t) (less t) (2 ^ 53 * S) s.negative s.most) (le_of_eq (sym (mul_assoc 150 (2 ^ 53) S))) }
-    where
-      go : (p n s : ℕ) → p ≡ 0 → n * 10 ≤ 1497 * s → p + n ≤ 150 * s
-      go p n s e h = omega arith
+  size_t = record { scale = unit; number = s.number; size = le_trans (omega arith) (le_of_eq (sym (mul_assoc 150 (2 ^ 53) S))) }
 
   inside : Inside t
   inside = record {
@@ -273,17 +255,11 @@ module _ (t : Float) (s : Subnormal t) where
   unfolding k
   k_low =
       let d = sub_apart size_t (whole_bound 150 size_t) (part_half t s.number) tt in
-      subst (λ (w : ℕ). 127 * w ≤ less (nearest_whole t)) (sym (one_is ∙ mul_comm S (2 ^ 53))) (go (plus t) (less t) (plus (nearest_whole t)) (less (nearest_whole t)) S s.negative s.least d.under)
-    where
-      go : (p n q m s : ℕ) → p ≡ 0 → 1278 * (2 ^ 53 * s) ≤ n * 10 → q + n ≤ m + p + (2 ^ 52 + 301) * s → 127 * (2 ^ 53 * s) ≤ m
-      go p n q m s e h i = omega arith
+      subst (λ (w : ℕ). 127 * w ≤ less (nearest_whole t)) (sym (one_is ∙ mul_comm S (2 ^ 53))) (omega arith)
 
   within : Within 150 (to_signed 63 k)
   unfolding k
-  within = within_of_size 150 (nearest_whole t) (whole_at_most t s.number.held 150 (units_in_size 150 t s.number (le_trans size_t.size (le_of_eq (go S per_one one_is)))))
-    where
-      go : (s w : ℕ) → w ≡ s * 2 ^ 53 → 150 * 2 ^ 53 * s ≡ 150 * w
-      go s w e = omega arith
+  within = within_of_size 150 (nearest_whole t) (whole_at_most t s.number.held 150 (units_in_size 150 t s.number (le_trans size_t.size (le_of_eq (omega (arith, one_is))))))
 
   fails : exp2_fast t ≡ None
   unfolding exp2_fast k

@@ -1,6 +1,6 @@
 -- The plain factor of the logarithm's polynomial beside the fast path's, for a z and a z' at most 40 × 2^-53 from each other: at most 120 × 2^-53 (`factor_beside`); and its size
 -- (`plain_factor_lem`). Numbers are on the scale of 1, where 2^53 is 1. Assumes nothing.
-use Rattle.std.proofs.Common.{ℕ, ◌+◌, ◌*◌, ◌^◌, Bool, true, ◌&&◌, T, lit<, false}
+use Rattle.std.proofs.Common.{rules, ℕ, ◌+◌, ◌*◌, ◌^◌, ◌&&◌, T, lit<}
 use lib.Ieee.{Float}
 use Rattle.floats.specs.Operations.{◌⊕◌, ◌⊗◌}
 use Rattle.tables.specs.Tables.{entry, log2p1_poly_p}
@@ -15,15 +15,7 @@ use Rattle.filter.specs.Plain.{plain_factor}
 
 -- a product and a sum
 plain_bound : {K L C : ℕ} {x y c : Float} → Bound S K x → Bound S L y → Bound S C c → T (ok K && ok L && ok (product_k K L + C)) → Bound S (sum_k (product_k K L) C) (x ⊗ y ⊕ c)
-plain_bound {K} {L} {C} p q r g =
-    let o = three (ok K) (ok L) (ok (product_k K L + C)) g in
-    add_bound (mul_bound (unit_left unit) p q o.0 o.1) r o.2
-  where
-    three : (a b c : Bool) → T (a && b && c) → T a × T b × T c
-    three true true true h = (tt, tt, tt)
-    three false b _ h = elim h [ ]
-    three true false _ h = elim h [ ]
-    three true true false h = elim h [ ]
+plain_bound {K} {L} {C} p q r g = add_bound (mul_bound (unit_left unit) p q (search rules) (search rules)) r (search rules)
 
 -- ---- the sizes of the steps
 record Steps (z : Float) : Type 0 where

@@ -7,17 +7,16 @@ use lib.Ieee.Fits.{sub-fits}
 use lib.Ieee.Scale.{finite}
 use Rattle.floats.specs.Operations.{◌⊕◌, ◌⊖◌, f64}
 use Rattle.floats.specs.Narrowing.{nearest_whole}
-use Rattle.floats.specs.OnBits.{absolute}
 use Rattle.floats.proofs.Laws.Sums.{SizeAtMost, whole_at_most}
 use Rattle.floats.proofs.Laws.Cast.{whole_fits}
-use Rattle.floats.proofs.Laws.SmallWhole.{plus_zero, small_of_size, NotMinusZero, left_over}
+use Rattle.floats.proofs.Laws.SmallWhole.{plus_zero, NotMinusZero, left_over}
 use Rattle.floats.proofs.Laws.Units.{HasSign, exponent}
 use Rattle.special.specs.Special as Special
 use Rattle.tables.specs.Tables.{entry, compoundf_exp2_t}
 use Rattle.fast_path.specs.Scaling.{scaled, Within}
-use Rattle.fast_path.specs.Fast.{power_index, HasPower}
+use Rattle.fast_path.specs.Fast.{power_index}
 use Rattle.fast_path.proofs.Lifted.{lifted}
-use Rattle.fast_path.proofs.Index.{between_finite, within_of_size, exponent_small, Castable, whole_k, distance_index}
+use Rattle.fast_path.proofs.Index.{between_finite, within_of_size}
 use Rattle.bounds.proofs.Values.{per_one, plus, less, mag, Number}
 use Rattle.bounds.proofs.Scales.{S, one_is, Bound, at}
 use Rattle.bounds.proofs.Distances.{apart_at}
@@ -110,25 +109,7 @@ middle_of t f p g h a =
 -- what proves `plain_found`
 pub ruleset ends = (is_minus_124, is_124, middle_of)
 
--- between the edges k can be cast, and what is left of t has a power
-module _ (t : Float) (f : T (fits binary64 t)) (edges : InsideEdges t) where
-  above : T (lt (fin true 75 (pos 1)) t)
-  above = subst T (sym edges.above) tt
-
-  below : T (lt t (fin false 1 (pos 7)))
-  below = subst T (sym edges.below) tt
-
-  pub whole_small : T (lt (absolute t) (fin false 1 (pos 51)))
-  whole_small = small_of_size 1000 t (lit< tt) (exponent_small t above below)
-
-  pub whole_castable : Castable (nearest_whole t)
-  whole_castable = whole_k t f above below
-
-  pub part_power : HasPower (part_of t)
-  unfolding part_of
-  part_power = distance_index t f above below
-
--- and a t of 124 at most is between them
+-- a t of 124 at most is between the edges
 pub edges_of : {t : Float} → Bound S (124 * 2 ^ 53) t → InsideEdges t
 edges_of b = inside_edges (at (125 * 2 ^ 53) b tt)
 

@@ -1,6 +1,6 @@
 -- The nearest 32nd to t at once: 3 * 2^46 + t is rounded to a whole number of 32nds, N of them. Let N and 16 more be 32 * j + i. Where i is above 0 and what is left of t is clear
 -- of the switches of the index, j is k and 3 * 2^46 more, i is the index, and what is left is the same as in two steps (`one_step`). Assumes nothing.
-use Rattle.std.proofs.Common.{◌≡◌, ℕ, zero, suc, ◌+◌, ◌-◌, ◌*◌, ◌/◌, ◌%◌, ◌^◌, ◌<◌, ◌≤◌, min, Bool, true, false, not, T, cond, ◌&&◌, ◌⊎◌, ℤ, pos, neg_ℤ, sym, refl, ap, ◌∙◌, subst, ap₂, inl, inr, true≢false, le_trans, le_of_eq, lt_of_lt_of_le, lt_of_le_of_lt, lt_irrefl, mul-le-mul_right, mod-lt, le_antisymm, lt_of_mul-lt-mul_right, mul-pos, mul-one, le_of_mul-le-mul_right, mul-div_cancel, arith, lit<, lit≤}
+use Rattle.std.proofs.Common.{rules, ◌≡◌, ℕ, zero, suc, ◌+◌, ◌-◌, ◌*◌, ◌/◌, ◌%◌, ◌^◌, ◌<◌, ◌≤◌, min, Bool, true, false, not, T, cond, ◌⊎◌, ℤ, pos, neg_ℤ, sym, refl, ap, ◌∙◌, subst, ap₂, inl, inr, le_trans, le_of_eq, lt_of_lt_of_le, lt_of_le_of_lt, lt_irrefl, mul-le-mul_right, mod-lt, le_antisymm, lt_of_mul-lt-mul_right, mul-pos, mul-one, le_of_mul-le-mul_right, mul-div_cancel, arith, lit<, lit≤}
 use lib.Ieee.{Float, nan, inf, fin, binary64, up, down, fits, is_nan, neg, sub, le, of_bits, to_bits, to_signed}
 use lib.Ieee.Bits.{is_true}
 use lib.Ieee.Exact.{HasValue}
@@ -390,15 +390,9 @@ module _ (t : Float) (b : Bound S (124 * 2 ^ 53) t) where
             go s w e = omega arith
 
 -- ---- so the tests of the two steps pass, and the scaled pattern is theirs
-two : (u v : Bool) → (u && v) ≡ true → (u ≡ true) × (v ≡ true)
-two true v e = (refl, e)
-two false v e = absurd (true≢false (sym e))
-
 module _ (t : Float) (b : Bound S (124 * 2 ^ 53) t) (big : 0 < mag t) (some : 0 < digits32 t % 32) (clear : clear_of_index switch_gap (t ⊖ nearest32nd t) ≡ true) where
   step : OneStep t
-  step =
-      let o = two _ _ clear in
-      one_step t b some big (rest_bound (sub_bound b (nearest_bound t b) tt).number o.0 o.1)
+  step = one_step t b some big (rest_bound (sub_bound b (nearest_bound t b) tt).number (search rules) (search rules))
 
   pub clear_of_both : clear_of_switches switch_gap (part_of t) (rest_of t) ≡ true
   clear_of_both = rw (step.below, step.above, step.rest, clear) refl

@@ -32,16 +32,7 @@ use Rattle.filter.proofs.Edges.{one_pos, not_low, not_high, not_tiny, low_edge_l
 -- ---- between the edges: t' from 2^-300 to 124 in size
 module _ (t t' : Float) (b : TimesBeside t t') (m : Bound S (124 * 2 ^ 53) t') (some : 2 ^ 774 ≤ mag t') where
   near : Apart S (2 ^ 20) t t'
-  near = record {
-    over = go (plus t + less t') (less t + plus t') (mag t') S m.size b.over;
-    under = turned (plus t) (less t) (plus t') (less t') (2 ^ 20 * S) (go (less t + plus t') (plus t + less t') (mag t') S m.size b.under);
-  }
-    where
-      go : (x y z s : ℕ) → z ≤ 124 * 2 ^ 53 * s → x * 2 ^ 45 ≤ y * 2 ^ 45 + 33 * z → x ≤ y + 2 ^ 20 * s
-      go x y z s g h = omega arith
-
-      turned : (p n q k d : ℕ) → n + q ≤ p + k + d → q + n ≤ k + p + d
-      turned p n q k d h = omega arith
+  near = record { over = omega arith; under = omega arith }
 
   -- the same sign
   record Signs : Type 0 where
@@ -55,19 +46,13 @@ module _ (t t' : Float) (b : TimesBeside t t') (m : Bound S (124 * 2 ^ 53) t') (
       positive : (n : ℕ) → 2 ^ 774 ≤ n → 0 < n
       positive n h = lt_of_lt_of_le (lit< tt) h
 
-      both : (p n q k : ℕ) → k ≡ 0 → 0 < q → (n + q) * 2 ^ 45 ≤ (p + k) * 2 ^ 45 + 33 * (q + k) → 0 < p
-      both p n q k e g h = omega arith
-
-      both_below : (p n q k : ℕ) → q ≡ 0 → 0 < k → (p + k) * 2 ^ 45 ≤ (n + q) * 2 ^ 45 + 33 * (q + k) → 0 < n
-      both_below p n q k e g h = omega arith
-
       go : (plus t' ≡ 0) ⊎ (less t' ≡ 0) → Signs
       go (inl e) =
           let k : 0 < less t' = positive (less t') (le_trans some (le_of_eq (ap (λ (n : ℕ). n + less t') e ∙ zero-add (less t')))) in
-          record { sign = true; has = sign_below t (both_below (plus t) (less t) (plus t') (less t') e k b.over); plain_has = sign_below t' k }
+          record { sign = true; has = sign_below t (omega arith); plain_has = sign_below t' k }
       go (inr e) =
           let k : 0 < plus t' = positive (plus t') (le_trans some (le_of_eq (ap (λ (n : ℕ). plus t' + n) e ∙ add-zero (plus t')))) in
-          record { sign = false; has = sign_above t (both (plus t) (less t) (plus t') (less t') e k b.under); plain_has = sign_above t' k }
+          record { sign = false; has = sign_above t (omega arith); plain_has = sign_above t' k }
 
   -- t is at no edge
   t_bound : Bound S (125 * 2 ^ 53) t
@@ -75,19 +60,13 @@ module _ (t t' : Float) (b : TimesBeside t t') (m : Bound S (124 * 2 ^ 53) t') (
 
   inside : Inside t
   inside = record {
-    above = not_low b.number (low (plus t) (less t) (2 ^ 53 * S) sized one_pos);
-    below = not_high b.number (high (plus t) (less t) (2 ^ 53 * S) sized one_pos);
+    above = not_low b.number (omega arith);
+    below = not_high b.number (omega arith);
     apart = not_tiny t b.number (large (plus t) (less t) (plus t') (less t') (one_side t) (one_side t') some b.over b.under);
   }
     where
       sized : plus t + less t ≤ 125 * (2 ^ 53 * S)
       sized = le_trans t_bound.size (le_of_eq (mul_assoc 125 (2 ^ 53) S))
-
-      low : (p n s : ℕ) → p + n ≤ 125 * s → 0 < s → n < 150 * s + p
-      low p n s h z = omega arith
-
-      high : (p n s : ℕ) → p + n ≤ 125 * s → 0 < s → p < 128 * s + n
-      high p n s h z = omega arith
 
       half : (x y z : ℕ) → x * 2 ^ 45 ≤ y * 2 ^ 45 + 33 * z → x * 2 ≤ y * 2 + z
       half x y z h = omega arith

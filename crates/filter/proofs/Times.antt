@@ -53,11 +53,7 @@ pub record TimesBeside (t t' : Float) : Type 0 where
 -- the exact products, from the logarithms' distance: with l and k for l and l'
 exact_beside : (pl nl pk nk py ny : ℕ) → (pl + nk) * 2 ^ 40 ≤ (nl + pk) * 2 ^ 40 + (pk + nk) → (nl + pk) * 2 ^ 40 ≤ (pl + nk) * 2 ^ 40 + (pk + nk)
     → (pl * py + nl * ny + (pk * ny + nk * py)) * 2 ^ 40 ≤ (pl * ny + nl * py + (pk * py + nk * ny)) * 2 ^ 40 + (pk + nk) * (py + ny)
-exact_beside pl nl pk nk py ny g h = join (mul-le-mul_right py g) (mul-le-mul_right ny h)
-  where
-    join : (pl + nk) * 2 ^ 40 * py ≤ ((nl + pk) * 2 ^ 40 + (pk + nk)) * py → (nl + pk) * 2 ^ 40 * ny ≤ ((pl + nk) * 2 ^ 40 + (pk + nk)) * ny
-        → (pl * py + nl * ny + (pk * ny + nk * py)) * 2 ^ 40 ≤ (pl * ny + nl * py + (pk * py + nk * ny)) * 2 ^ 40 + (pk + nk) * (py + ny)
-    join a b = omega arith
+exact_beside pl nl pk nk py ny g h = omega (arith, mul-le-mul_right py g, mul-le-mul_right ny h)
 
 -- |l| is at most twice |l'|
 twice : (p n q m : ℕ) → (p ≡ 0) ⊎ (n ≡ 0) → (p + m) * 2 ^ 40 ≤ (n + q) * 2 ^ 40 + (q + m) → (n + q) * 2 ^ 40 ≤ (p + m) * 2 ^ 40 + (q + m) → p + n ≤ 2 * (q + m)
@@ -70,16 +66,13 @@ at_most_thrice M w Z h = omega arith
 
 -- it is large beside a unit
 large : (M w Z : ℕ) → w * 2 ^ 60 ≤ M → M * 2 ^ 53 ≤ Z * 2 ^ 53 + M + w * 2 ^ 52 → w * 2 ^ 50 ≤ Z
-large M w Z g h = go M w Z g (at_most_thrice M w Z h)
-  where
-    go : (M w Z : ℕ) → w * 2 ^ 60 ≤ M → M ≤ 2 * Z + w → w * 2 ^ 50 ≤ Z
-    go M w Z g h = omega arith
+large M w Z g h = omega (arith, at_most_thrice M w Z h)
 
 -- all roundings together
 room : (K M w Z : ℕ) → K ≤ 2 * M → w * 2 ^ 50 ≤ Z → M * 2 ^ 53 ≤ Z * 2 ^ 53 + M + w * 2 ^ 52 → 32 * (M * 2 ^ 53 + (K + M) * 2 ^ 40 + w * 2 ^ 93) ≤ 33 * Z * 2 ^ 53
 room K M w Z g h i =
     let m = at_most_thrice M w Z i in
-    all (M * 2 ^ 53) ((K + M) * 2 ^ 40) (w * 2 ^ 93) Z (close (M * 2 ^ 53) M w Z h m i) (both K M w Z g h m) (le_trans (le_of_eq (apart w)) (mul-le-mul_right (2 ^ 43) h))
+    (omega (arith, close (M * 2 ^ 53) M w Z h m i, both K M w Z g h m, le_trans (le_of_eq (apart w)) (mul-le-mul_right (2 ^ 43) h)))
   where
     close : (X M w Z : ℕ) → w * 2 ^ 50 ≤ Z → M ≤ 2 * Z + w → X ≤ Z * 2 ^ 53 + M + w * 2 ^ 52 → X ≤ Z * 2 ^ 53 + 8 * Z
     close X M w Z g h i = over X (Z * 2 ^ 53) M (w * 2 ^ 52) Z (small w Z g) h i
@@ -88,44 +81,26 @@ room K M w Z g h i =
         small w Z h = (omega arith, omega arith)
 
         over : (X Y M W Z : ℕ) → (W ≤ 4 * Z) × (w ≤ Z) → M ≤ 2 * Z + w → X ≤ Y + M + W → X ≤ Y + 8 * Z
-        over X Y M W Z g h i = rest X Y M W Z w g.0 g.1 h i
-          where
-            rest : (X Y M W Z w : ℕ) → W ≤ 4 * Z → w ≤ Z → M ≤ 2 * Z + w → X ≤ Y + M + W → X ≤ Y + 8 * Z
-            rest X Y M W Z w f g h i = omega arith
+        over X Y M W Z g h i = omega arith
 
     both : (K M w Z : ℕ) → K ≤ 2 * M → w * 2 ^ 50 ≤ Z → M ≤ 2 * Z + w → (K + M) * 2 ^ 40 ≤ 9 * Z * 2 ^ 40
-    both K M w Z g h i = mul-le-mul_right (2 ^ 40) (thrice K M w Z g h i)
-      where
-        thrice : (K M w Z : ℕ) → K ≤ 2 * M → w * 2 ^ 50 ≤ Z → M ≤ 2 * Z + w → K + M ≤ 9 * Z
-        thrice K M w Z g h i = omega arith
+    both K M w Z g h i = mul-le-mul_right (2 ^ 40) (omega arith)
 
     apart : (w : ℕ) → w * 2 ^ 93 ≡ w * 2 ^ 50 * 2 ^ 43
     apart w = omega arith
 
-    all : (X Y U Z : ℕ) → X ≤ Z * 2 ^ 53 + 8 * Z → Y ≤ 9 * Z * 2 ^ 40 → U ≤ Z * 2 ^ 43 → 32 * (X + Y + U) ≤ 33 * Z * 2 ^ 53
-    all X Y U Z f g h = omega arith
-
 -- from the two products, with A - B and C - D for them
 joined : (A B C D P N Q O K M w Z : ℕ) → (A + N) * 2 ^ 53 ≤ (B + P) * 2 ^ 53 + (K + w * 2 ^ 52) → (D + Q) * 2 ^ 53 ≤ (C + O) * 2 ^ 53 + (M + w * 2 ^ 52) → (P + O) * 2 ^ 40 ≤ (N + Q) * 2 ^ 40 + M
     → 32 * (M * 2 ^ 53 + (K + M) * 2 ^ 40 + w * 2 ^ 93) ≤ 33 * Z * 2 ^ 53 → (A + D) * 2 ^ 45 ≤ (B + C) * 2 ^ 45 + 33 * Z
-joined A B C D P N Q O K M w Z f g h i = second (A + D) (B + C) Z (M * 2 ^ 53 + (K + M) * 2 ^ 40 + w * 2 ^ 93) (first A B C D P N Q O K M w f g h) i
+joined A B C D P N Q O K M w Z f g h i = omega (arith, first A B C D P N Q O K M w f g h)
   where
     first : (A B C D P N Q O K M w : ℕ) → (A + N) * 2 ^ 53 ≤ (B + P) * 2 ^ 53 + (K + w * 2 ^ 52) → (D + Q) * 2 ^ 53 ≤ (C + O) * 2 ^ 53 + (M + w * 2 ^ 52) → (P + O) * 2 ^ 40 ≤ (N + Q) * 2 ^ 40 + M
         → (A + D) * 2 ^ 93 ≤ (B + C) * 2 ^ 93 + (M * 2 ^ 53 + (K + M) * 2 ^ 40 + w * 2 ^ 93)
     first A B C D P N Q O K M w f g h = omega arith
 
-    second : (a b Z x : ℕ) → a * 2 ^ 93 ≤ b * 2 ^ 93 + x → 32 * x ≤ 33 * Z * 2 ^ 53 → a * 2 ^ 45 ≤ b * 2 ^ 45 + 33 * Z
-    second a b Z x g h = omega arith
-
 -- in units of the product again
 in_units_again : (p m n q z w : ℕ) → 0 < w → (p * w + m * w) * 2 ^ 45 ≤ (n * w + q * w) * 2 ^ 45 + 33 * (z * w) → (p + m) * 2 ^ 45 ≤ (n + q) * 2 ^ 45 + 33 * z
-in_units_again p m n q z w W h = le_of_mul-le-mul_right (le_trans (le_of_eq (left p m w)) (le_trans h (le_of_eq (right n q z w)))) W
-  where
-    left : (p m w : ℕ) → (p + m) * 2 ^ 45 * w ≡ (p * w + m * w) * 2 ^ 45
-    left p m w = omega arith
-
-    right : (n q z w : ℕ) → (n * w + q * w) * 2 ^ 45 + 33 * (z * w) ≡ ((n + q) * 2 ^ 45 + 33 * z) * w
-    right n q z w = omega arith
+in_units_again p m n q z w W h = le_of_mul-le-mul_right (le_trans (le_of_eq (omega arith)) (le_trans h (le_of_eq (omega arith)))) W
 
 module _ {l l' y : Float} (b : LogBeside l l') (s : Single y) where
   M : ℕ
@@ -158,14 +133,10 @@ module _ {l l' y : Float} (b : LogBeside l l') (s : Single y) where
 
   under : (less_times l y + plus_times l' y) * 2 ^ 40 ≤ (plus_times l y + less_times l' y) * 2 ^ 40 + M
   unfolding M
-  under = turned (plus l) (less l) (plus l') (less l') (plus y) (less y) (exact_beside (less l) (plus l) (less l') (plus l') (plus y) (less y) (swap (less l + plus l') (plus l + less l') (plus l') (less l') b.near.under) (swap (plus l + less l') (less l + plus l') (plus l') (less l') b.near.over))
+  under = omega (arith, exact_beside (less l) (plus l) (less l') (plus l') (plus y) (less y) (swap (less l + plus l') (plus l + less l') (plus l') (less l') b.near.under) (swap (plus l + less l') (less l + plus l') (plus l') (less l') b.near.over))
     where
       swap : (a c q m : ℕ) → a * 2 ^ 40 ≤ c * 2 ^ 40 + (q + m) → a * 2 ^ 40 ≤ c * 2 ^ 40 + (m + q)
       swap a c q m h = omega arith
-
-      turned : (pl nl pk nk py ny : ℕ) → (nl * py + pl * ny + (nk * ny + pk * py)) * 2 ^ 40 ≤ (nl * ny + pl * py + (nk * py + pk * ny)) * 2 ^ 40 + (nk + pk) * (py + ny)
-          → (pl * ny + nl * py + (pk * py + nk * ny)) * 2 ^ 40 ≤ (pl * py + nl * ny + (pk * ny + nk * py)) * 2 ^ 40 + (pk + nk) * (py + ny)
-      turned pl nl pk nk py ny h = omega arith
 
   -- where there is a product
   apart : 2 ^ 1000 ≤ mag l' → 2 ^ 925 ≤ mag y → TimesBeside (l ⊗ y) (l' ⊗ y)

@@ -1,2 +1,3 @@
 -- The laws of `piece`.
+pub mod FirstLine
 pub mod Replied

@@ -1,10 +1,11 @@
 -- Document 01, "Batch lines and the reader's state": what a piece adds to a state, and its answer lines.
-use Rattle.std.specs.Prelude.{ℕ, ◌+◌, List, [], ◌∷◌, ◌++◌, map}
+use Rattle.std.specs.Prelude.{◌≡◌, ℕ, ◌+◌, List, [], ◌∷◌, map}
+use Rattle.std.specs.List.{flat_map}
 use Rattle.replies.specs.Reply.{Told, reply_to, written}
-use Rattle.scan.specs.Complete.{lines_from, rest_from, feeds}
+use Rattle.scan.specs.Complete.{lines_from, rest_from, lines, rest, feeds}
 use Rattle.state.specs.declared.State.{State}
 use Rattle.state.specs.Tally.{plus}
-use Rattle.state.specs.Holding.{hold, carried}
+use Rattle.state.specs.Holding.{hold, carried, kept}
 use Rattle.piece.specs.Counts.{counts}
 
 -- 4,294,967,295
@@ -21,12 +22,23 @@ replies ls = map reply_to ls
 
 -- answer lines, joined
 unfoldable pub joined : List Told → List ℕ
-joined [] = []
-joined (r ∷ rs) = written r ++ joined rs
+joined rs = flat_map written rs
 
 -- "the answer lines of the complete lines": what is written for a list of lines
 unfoldable pub answer_lines : List (List ℕ) → List ℕ
 answer_lines ls = joined (replies ls)
+
+-- The first line that ends in the piece p, after the bytes `so` of a line, is answered with r, and `others` follow its line feed.
+pub record FirstReply (so p : List ℕ) (r : Told) (others : List ℕ) : Type 0 where
+  pub its_replies : replies (lines_from so p) ≡ r ∷ replies (lines others)
+  pub its_rest : rest_from so p ≡ rest others
+  pub its_feeds : feeds p ≡ feeds others + 1
+
+-- no line ends in it, and `left` is held then
+pub record NoneEnds (so p left : List ℕ) : Type 0 where
+  pub no_lines : lines_from so p ≡ []
+  pub all_left : left ≡ kept (rest_from so p)
+  pub no_feeds : feeds p ≡ 0
 
 -- the lines that a piece adds: "its bytes carry on the line that the tail holds"
 unfoldable pub added : State → List ℕ → List (List ℕ)

@@ -1,91 +1,84 @@
 // Answering the lines of a piece.
-ghost use Rattle.std.specs.Prelude.{◌≡◌, ◌+◌, ◌≤◌, ◌<◌, length, drop};
+ghost use Rattle.std.specs.Prelude.{◌≡◌, ◌+◌, ◌≤◌, length};
 ghost use Rattle.text.specs.Bytes.{put};
-ghost use Rattle.scan.specs.Complete.{rest, lines as Complete·lines, feeds as Complete·feeds};
-ghost use Rattle.state.specs.Tally.{total as Tally·total, plus};
+ghost use Rattle.scan.specs.Complete.{rest, lines, feeds};
+ghost use Rattle.state.specs.Tally.{total, plus};
+ghost use Rattle.state.specs.Holding.{hold};
 ghost use Rattle.piece.specs.Counts.{counts};
-ghost use Rattle.state.specs.Holding.{Sound};
 ghost use Rattle.piece.specs.Piece.{replies, answer_lines, added, after, most_lines};
 
 use crate::Taken;
-use crate::held::reply_to_tail;
+use crate::first::{First, first_reply};
 use crate::tally::counted;
-use scan::line_end;
-use state::{State, Tallies, carry_on, empty, total};
+use replies::{reply_to, write_reply};
+use scan::Lines;
+use state::{Held, Reader, State, Tallies};
 
-// How far the answering has come: the place after the bytes written, the place after the last line
+// How far the answering has come: the place after the bytes written, the bytes after the last line
 // feed, the tallies.
 #[derive(Clone, Copy)]
-pub(crate) struct Progress {
-    pub at: usize,
-    pub from: usize,
-    pub tallies: Tallies,
+struct Progress<'a> {
+    at: usize,
+    rest: &'a [u8],
+    tallies: Tallies,
 }
 
 // Takes a piece whose answer lines have room.
-pub fn take_piece(state: State, piece: &[u8], out: &mut [u8]) -> Taken
-    requires sound { Sound state.tail }
-    requires adds_up { Tally·total state.tallies ≡ state.lines }
-    requires countable { state.lines + Complete·feeds piece.now ≤ most_lines }
-    requires room { length (answer_lines (added state piece.now)) ≤ length out.old }
-    ensures value { result ≡ record { state = after state piece.now; wrote = length (answer_lines (added state piece.now)) } }
-    ensures out_after { out.new ≡ put out.old 0 (answer_lines (added state piece.now)) }
+pub fn take_piece(reader: Reader, piece: &[u8], out: &mut [u8]) -> Taken
+    requires countable { reader.lines + feeds piece.now ≤ most_lines }
+    requires room { length (answer_lines (added reader piece.now)) ≤ length out.old }
+    ensures value { result ≡ record { state = after reader piece.now; wrote = length (answer_lines (added reader piece.now)) } }
+    ensures out_after { out.new ≡ put out.old 0 (answer_lines (added reader piece.now)) }
 {
-    let tail = state.tail;
-    let tallies = state.tallies;
-    let first = carry_on(tail, piece, 0);
-    let line = first.tail;
-    let end = first.end;
-    if end == piece.len() {
-        return Taken {
-            state: State {
-                tail: line,
-                lines: state.lines,
-                tallies,
-            },
+    let tallies = reader.tallies();
+    match first_reply(reader.held(), piece) {
+        Err(held) => Taken {
+            state: state_of(held, tallies),
             wrote: 0,
-        };
-    }
-    let reply = reply_to_tail(line);
-    let at = replies::write_reply(reply, out, 0);
-    let done = answer_lines(piece, end + 1, counted(tallies, reply), out, at);
-    let left = carry_on(empty(), piece, done.from);
-    let held = left.tail;
-    let counts = done.tallies;
-    Taken {
-        state: State {
-            tail: held,
-            lines: total(counts) as u32,
-            tallies: counts,
         },
-        wrote: done.at,
+        Ok(First { reply, others }) => {
+            let at = write_reply(reply, out, 0);
+            let done = answer_lines(others, counted(tallies, reply), out, at);
+            Taken {
+                state: state_of(Held::empty().extended(done.rest), done.tallies),
+                wrote: done.at,
+            }
+        }
     }
 }
 
-// Answers the complete lines from `from` on.
-fn answer_lines(piece: &[u8], from: usize, tallies: Tallies, out: &mut [u8], at: usize) -> Progress
-    requires from_in_bounds { from ≤ length piece.now }
-    requires countable { Tally·total tallies + Complete·feeds (drop from piece.now) ≤ most_lines }
-    requires room { at + length (answer_lines (Complete·lines (drop from piece.now))) ≤ length out.old }
-    ensures at_value { result.at ≡ at + length (answer_lines (Complete·lines (drop from piece.now))) }
-    ensures rest_follows { (result.from ≤ length piece.now) × (drop result.from piece.now ≡ rest (drop from piece.now)) }
-    ensures tallies_counted { result.tallies ≡ plus tallies (counts (replies (Complete·lines (drop from piece.now)))) }
-    ensures out_after { out.new ≡ put out.old at (answer_lines (Complete·lines (drop from piece.now))) }
+// The state that holds a line and such tallies.
+fn state_of(held: Held, tallies: Tallies) -> State
+    requires { total tallies ≤ most_lines }
+    ensures { result ≡ record { tail = hold held; lines = total tallies; tallies = tallies } }
 {
-    let mut i = from;
+    State {
+        tail: held.into(),
+        lines: tallies.total() as u32,
+        tallies,
+    }
+}
+
+// Answers the complete lines of some bytes.
+fn answer_lines<'a>(bytes: &'a [u8], tallies: Tallies, out: &mut [u8], at: usize) -> Progress<'a>
+    requires countable { total tallies + feeds bytes.now ≤ most_lines }
+    requires room { at + length (answer_lines (lines bytes.now)) ≤ length out.old }
+    ensures at_value { result.at ≡ at + length (answer_lines (lines bytes.entry.now)) }
+    ensures rest_follows { result.rest.now ≡ rest bytes.entry.now }
+    ensures tallies_counted { result.tallies ≡ plus tallies (counts (replies (lines bytes.entry.now))) }
+    ensures out_after { out.new ≡ put out.old at (answer_lines (lines bytes.entry.now)) }
+{
     let mut place = at;
     let mut t = tallies;
-    let mut end = line_end(piece, i);
-    while end < piece.len() {
-        let reply = replies::reply_to(&piece[i..end]);
-        place = replies::write_reply(reply, out, place);
+    let mut lines = Lines { rest: bytes };
+    while let Some(line) = lines.next() {
+        let reply = reply_to(line);
+        place = write_reply(reply, out, place);
         t = counted(t, reply);
-        i = end + 1;
-        end = line_end(piece, i);
     }
     Progress {
         at: place,
-        from: i,
+        rest: lines.rest,
         tallies: t,
     }
 }

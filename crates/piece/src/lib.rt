@@ -3,7 +3,7 @@
 #![tactic(auto)]
 
 mod answer;
-mod held;
+mod first;
 mod measure;
 mod tally;
 

@@ -25,10 +25,10 @@ lines l = lines_from [] l
 unfoldable pub rest : List ℕ → List ℕ
 rest l = rest_from [] l
 
--- One step along the complete lines of l: the first of them, and what is left after its feed; or none, and all of l is left. The unfinished tail stays the same.
+-- One step along the complete lines of l: the first of them, and what is left after its feed; or none, and all of l, the unfinished tail, is left.
 abbrev pub NextLine : List ℕ → Option (Bor (List ℕ)) → List ℕ → Type 0
 NextLine l r left =
-    MatchOption r ((lines l ≡ []) × (left ≡ l)) (λ line. (lines l ≡ line.now ∷ lines left) × (rest l ≡ rest left))
+    MatchOption r ((lines l ≡ []) × (rest l ≡ l) × (left ≡ l)) (λ line. (lines l ≡ line.now ∷ lines left) × (rest l ≡ rest left))
 
 -- how many line feeds l has
 unfoldable pub feeds : List ℕ → ℕ

@@ -1,11 +1,6 @@
 -- The accurate logarithm beside the plain one for |x| from 2^-29 up (`kept_own`); and times y beside a plain k times y, t': where |t'| is at most 150, hi is 2^-29 from t' at most, and lo at most 2^-30 in
 -- size (`times_beside`); where |t'| is at most 2^-16, hi is 2^-52 from t' at most, and lo at most 2^-53 in size (`times_fine`). Assumes nothing.
-use mathlib.Core.Path.{◌≡◌, refl, sym, ap, ◌∙◌}
-use mathlib.Core.Logic.{◌⊎◌, inl, inr}
-use Prim.Native.Nat.{ℕ, ◌+◌, ◌*◌, ◌/◌, ◌^◌, ◌≤◌, ◌<◌}
-use native.Mathlib.Nat.{le_trans, le_of_eq, mul_assoc, mul-le-mul_right}
-use native.Mathlib.Omega.{arith}
-use lib.Dec.{T, leb, leb→le, lit≤, lit<}
+use Rattle.std.proofs.Common.{◌≡◌, ℕ, ◌+◌, ◌*◌, ◌/◌, ◌^◌, ◌<◌, ◌≤◌, refl, sym, ap, ◌∙◌, ◌⊎◌, inl, inr, le_trans, le_of_eq, mul_assoc, mul-le-mul_right, arith, T, leb, leb→le, lit≤, lit<}
 use lib.Ieee.{Float, binary32, fits, le, lt}
 use lib.Ieee.Scale.{finite}
 use Rattle.floats.specs.Operations.{◌⊗◌}
@@ -26,6 +21,7 @@ use Rattle.filter.proofs.Logarithm.{LogBeside, log_beside}
 use Rattle.filter.proofs.Times.{Single}
 use Rattle.slow_filter.specs.Plain.{kept_from}
 use Rattle.slow_filter.proofs.Logarithms.{Beside, logarithms, on_one_scale}
+use Rattle.slow_filter.proofs.Regrouped.{turned_sides}
 use Rattle.slow_filter.proofs.LogOwn.{LogOwn, own_bound}
 use Rattle.slow_filter.proofs.Fine.{onto_apart}
 
@@ -101,13 +97,10 @@ module _ (x : Float) (f : T (fits binary32 x)) (p : T (finite x)) (h : T (lt min
   high_apart = record {
     over = on_scale (plus accurate.hi + less plain) (less accurate.hi + plus plain) (mag plain) large
         (joined (plus accurate.hi) (less accurate.hi) (plus fast) (less fast) (plus plain) (less plain) (mag fast) (mag plain) near.over beside.near.over fast_size);
-    under = turned (plus accurate.hi) (less accurate.hi) (plus plain) (less plain) _
+    under = turned_sides (plus plain) (less plain) (plus accurate.hi) (less accurate.hi) _
         (on_scale (less accurate.hi + plus plain) (plus accurate.hi + less plain) (mag plain) large
         (joined (less accurate.hi) (plus accurate.hi) (less fast) (plus fast) (less plain) (plus plain) (mag fast) (mag plain) near.under beside.near.under fast_size));
   }
-    where
-      turned : (p n q m d : ℕ) → n + q ≤ p + m + d → q + n ≤ m + p + d
-      turned p n q m d h = omega arith
 
   bounds : Bounds (mag plain / 2 ^ 53) (2 ^ 54) (2 ^ 15 + 1) accurate
   bounds = record {

@@ -1,13 +1,6 @@
 -- For t from -150 to -127, k is from -150 to -127 (`below_normal`). Assumes nothing.
-use mathlib.Core.Path.{◌≡◌, sym, ap, ◌∙◌, subst}
-use mathlib.Core.Bool.{true, false, false≢true}
-use Prim.Native.Nat.{ℕ, zero, suc, ◌+◌, ◌*◌, ◌/◌, ◌^◌, ◌≤◌, ◌<◌, min}
-use native.Mathlib.Nat.{le_trans, le_of_eq, le_of_suc-le-suc, not-le_of_lt, mul-one, mul-div_cancel, mul-le-mul_right}
-use native.Mathlib.Omega.{arith}
-use lib.Dec.{T, lit<}
-use lib.IntN.{ℤ, pos, negsuc, neg_ℤ}
-use mir.Syntax.{w64}
-use mir.Val.{to_z, of_z}
+use Rattle.std.proofs.Common.{◌≡◌, ℕ, zero, suc, ◌+◌, ◌*◌, ◌/◌, ◌^◌, ◌<◌, ◌≤◌, sym, ap, ◌∙◌, subst, true, false, min, le_trans, le_of_eq, le_of_suc-le-suc, not-le_of_lt, mul-one, mul-div_cancel, mul-le-mul_right, arith, T, lit<, ℤ, pos, negsuc, neg_ℤ, w64, to_z, of_z}
+use mathlib.Core.Bool.{false≢true}
 use Rattle.fast_path.proofs.Lifted.{within_read}
 use lib.Ieee.{Float, nan, inf, fin, binary64, up, down, fits, le, to_signed}
 use lib.Ieee.Exact.{HasValue}

@@ -1,11 +1,6 @@
 -- The scale of 2^-16, on which 2^53 is 2^-16: 2^16 of its parts are one on the scale of 1, so that a rounding next to 1 is counted closely. Bounds and distances go from the one to the other
 -- (`bound_fine`, `apart_fine`, `bound_one`, `apart_one`). Assumes nothing.
-use mathlib.Core.Path.{◌≡◌, refl, sym, ap, ◌∙◌}
-use Prim.Native.Nat.{ℕ, ◌+◌, ◌*◌, ◌/◌, ◌^◌, ◌≤◌}
-use native.Mathlib.Nat.{le_refl, le_trans, le_of_eq, mul_assoc, mul-le-mul_right, add-le-add}
-use native.Mathlib.Omega.{arith}
-use lib.Dec.{lit≤}
-use lib.Pow.{pow_pos}
+use Rattle.std.proofs.Common.{◌≡◌, ℕ, ◌+◌, ◌*◌, ◌/◌, ◌^◌, ◌≤◌, refl, sym, ap, ◌∙◌, le_refl, le_trans, le_of_eq, mul_assoc, mul-le-mul_right, add-le-add, arith, lit≤, pow_pos}
 use lib.Ieee.{Float}
 use Rattle.bounds.proofs.Scales.{S, unit, Scale, ProductScale, unit_left, Bound, onto}
 use Rattle.bounds.proofs.Distances.{Apart}

@@ -1,6 +1,5 @@
 -- The accurate logarithm beside a plain one, k, on the scale of k: 2^53 is k, but for less than 1. Its hi is at most 108194 of them from k, and its lo at most 2^15 + 1. Assumes nothing.
-use Prim.Native.Nat.{ℕ, ◌+◌, ◌*◌, ◌/◌, ◌^◌, ◌≤◌}
-use native.Mathlib.Omega.{arith}
+use Rattle.std.proofs.Common.{ℕ, ◌+◌, ◌*◌, ◌/◌, ◌^◌, ◌≤◌, arith}
 use lib.Ieee.{Float}
 use Rattle.double_double.specs.declared.DoubleDouble.{DoubleDouble}
 use Rattle.bounds.proofs.Values.{mag, Number}

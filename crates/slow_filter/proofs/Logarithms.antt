@@ -1,13 +1,7 @@
 -- The accurate logarithm's hi beside the fast one, for an |x| from 2^-29 up: 100000 / 2^53 of its size at most (`logarithms`). Three cases, as for the fast path beside the plain one: the
 -- exponent e is not 0 (`whole_case`); e is 0 and the inverse is not 1 (`part_case`); e is 0 and the inverse is 1 (`near_case`), where z is x, exactly, and both are on its scale.
 -- Assumes nothing.
-use mathlib.Core.Path.{◌≡◌, refl, sym, ap, ◌∙◌, subst}
-use mathlib.Core.Logic.{◌⊎◌, inl, inr}
-use Prim.Native.Nat.{ℕ, ◌+◌, ◌*◌, ◌^◌, ◌≤◌, ◌<◌}
-use native.Mathlib.Nat.{le_trans, le_of_eq, lt_of_lt_of_le, mul_comm, mul-le-mul_right, mul-pos, eq-zero-or-pos, zero-mul, not-le_of_lt}
-use native.Mathlib.Omega.{arith}
-use lib.Dec.{T, lit≤, lit<}
-use lib.Pow.{pow_pos}
+use Rattle.std.proofs.Common.{◌≡◌, ℕ, ◌+◌, ◌*◌, ◌^◌, ◌<◌, ◌≤◌, refl, sym, ap, ◌∙◌, subst, ◌⊎◌, inl, inr, le_trans, le_of_eq, lt_of_lt_of_le, mul_comm, mul-le-mul_right, mul-pos, eq-zero-or-pos, zero-mul, not-le_of_lt, arith, T, lit≤, lit<, pow_pos}
 use lib.Ieee.{Float, binary32, binary64, fits, to_bits, lt, le}
 use lib.Ieee.Scale.{finite}
 use Rattle.floats.specs.Operations.{◌⊕◌, ◌⊗◌}

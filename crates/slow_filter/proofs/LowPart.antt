@@ -1,14 +1,7 @@
 -- 1 + x as the accurate logarithm has it, for an |x| from 2^-29 up: below 2^52 the f64 sum is exact and lo is 0, and from there on lo is a 2^50th of the sum at most (`low_cases`).
 -- Assumes nothing.
-use mathlib.Core.Path.{◌≡◌, refl, sym, ap, ap₂, ◌∙◌, subst}
-use mathlib.Core.Logic.{◌⊎◌, inl, inr}
-use mathlib.Core.Bool.{Bool, true, false, not, cond}
-use Prim.Native.Nat.{ℕ, ◌+◌, ◌-◌, ◌*◌, ◌^◌, ◌≤◌, ◌<◌}
-use native.Mathlib.Nat.{le_refl, le_trans, le_of_eq, le_of_lt, lt_of_lt_of_le, lt_of_le_of_lt, mul_assoc, lt_of_mul-lt-mul_right, add_comm, one-mul, not-le_of_lt}
-use native.Mathlib.Omega.{arith}
-use lib.Dec.{T, leb, ltb, leb→le, nleb→lt, ltb→lt, nltb→le, lit≤}
-use lib.Pow.{pow-add, pow_mono, shl_lt}
-use lib.IntN.{pos, negsuc}
+use Rattle.std.proofs.Common.{◌≡◌, ℕ, ◌+◌, ◌-◌, ◌*◌, ◌^◌, ◌<◌, ◌≤◌, refl, sym, ap, ap₂, ◌∙◌, subst, ◌⊎◌, inl, inr, Bool, true, false, not, cond, le_refl, le_trans, le_of_eq, le_of_lt, lt_of_lt_of_le, lt_of_le_of_lt, mul_assoc, lt_of_mul-lt-mul_right, add_comm, one-mul, not-le_of_lt, arith, T, leb, ltb, leb→le, ltb→lt, nltb→le, lit≤, pow-add, pow_mono, shl_lt, pos, negsuc}
+use lib.Dec.{nleb→lt}
 use lib.Ieee.{Float, nan, inf, fin, binary32, fits, le, lt}
 use lib.Ieee.Bits.{is_true}
 use lib.Ieee.Scale.{finite}

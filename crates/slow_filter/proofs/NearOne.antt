@@ -1,10 +1,6 @@
 -- Next to 1 the slow path's answer is what the short polynomial rounds to, where that is clear of every midpoint of two f32s (`near_one`): the two patterns are 6 from each other at most, and a
 -- pattern that is taken is more than 8 from every midpoint. Where t is so small that the slow path does not work the power out, both are 1. Assumes nothing.
-use Rattle.std.proofs.Common.{Some}
-use mathlib.Core.Path.{◌≡◌, refl, sym, ap, ◌∙◌}
-use mathlib.Core.Bool.{Bool, true, false}
-use Prim.Native.Nat.{ℕ, ◌+◌, ◌-◌, ◌*◌, ◌/◌, ◌%◌, ◌^◌, ◌≤◌, ◌<◌, min}
-use native.Mathlib.Omega.{arith}
+use Rattle.std.proofs.Common.{◌≡◌, ℕ, ◌+◌, ◌-◌, ◌*◌, ◌/◌, ◌%◌, ◌^◌, ◌<◌, ◌≤◌, Some, refl, sym, ap, ◌∙◌, Bool, true, false, min, arith, ltb-true}
 use lib.Ieee.{Float, binary32, binary64, le, to_bits, of_bits}
 use lib.Ieee.Bits.{of_bits-to_bits}
 use Rattle.floats.specs.Operations.{◌⊕◌, ◌⊗◌, f64}
@@ -20,7 +16,6 @@ use Rattle.bounds.proofs.Distances.{Apart, bound_near}
 use Rattle.bounds.proofs.Apart.{apart_turned}
 use Rattle.filter.proofs.Power.{Unscaled}
 use Rattle.std.proofs.lemmas.Option.{cond_some}
-use borrow.Author.Tests.{ltb-true}
 use Rattle.filter.specs.Midpoints.{clear_of_midpoints, narrowed_pattern}
 use Rattle.slow_filter.specs.NearOne.{near_one_power, margin, near_one_found}
 use Rattle.slow_filter.proofs.NearOneTiny.{FromOne, tiny_bound, tiny_is_one, tiny_near}

@@ -1,13 +1,6 @@
 -- The accurate power of two next to 1: for a t' of at most 2^-16 in size, and a t near it, k is 0. Where t is so small that the power is not worked out, the answer is 1 + t / 2, narrowed
 -- (`tiny_power`); else it is a pattern, narrowed, that is 6 from that of the short polynomial at t' at most (`near_one_power_lem`): the index is 16, and the power of the table 1. Assumes nothing.
-use mathlib.Core.Path.{◌≡◌, refl, sym, ap, ap₂, ◌∙◌, subst}
-use mathlib.Core.Logic.{◌⊎◌, inl, inr}
-use mathlib.Core.Bool.{Bool, true, false, cond, ◌&&◌}
-use Prim.Native.Nat.{ℕ, ◌+◌, ◌-◌, ◌*◌, ◌%◌, ◌^◌, ◌≤◌, ◌<◌}
-use native.Mathlib.Nat.{le_trans, le_of_eq}
-use native.Mathlib.Omega.{arith}
-use lib.Dec.{T, lit≤, lit<}
-use lib.IntN.{ℤ, pos}
+use Rattle.std.proofs.Common.{◌≡◌, ℕ, ◌+◌, ◌-◌, ◌*◌, ◌%◌, ◌^◌, ◌<◌, ◌≤◌, refl, sym, ap, ap₂, ◌∙◌, subst, ◌⊎◌, inl, inr, Bool, true, false, cond, ◌&&◌, le_trans, le_of_eq, arith, T, lit≤, lit<, ℤ, pos}
 use lib.Ieee.{Float, nan, inf, fin, binary64, round, fits, lt, le, eq, sub, to_bits, of_bits, to_signed, is_nan}
 use Rattle.floats.specs.Operations.{◌⊕◌, ◌⊖◌, ◌⊗◌, f64}
 use Rattle.floats.specs.Narrowing.{narrowed, nearest_whole}

@@ -1,11 +1,6 @@
 -- Next to 1 where the slow path does not work the power out: for a t of at most 1.4427 × 2^-25 in size (`tiny_bound`) it answers 1 + t / 2, narrowed, which is 1 (`tiny_is_one`); and the pattern of the
 -- short polynomial at a z that is no more than 2 × 2^-53 larger is 2^28 + 8 from that of 1 at most (`tiny_near`), and 2^28 is how far the midpoints are. Assumes nothing.
-use mathlib.Core.Path.{◌≡◌, refl, sym, ap, ◌∙◌, subst}
-use mathlib.Core.Logic.{◌⊎◌, inl, inr}
-use mathlib.Core.Bool.{true, false}
-use Prim.Native.Nat.{ℕ, ◌+◌, ◌-◌, ◌*◌, ◌/◌, ◌%◌, ◌^◌, ◌≤◌, ◌<◌, min}
-use native.Mathlib.Nat.{le_trans, le-add_right, zero-add}
-use native.Mathlib.Omega.{arith}
+use Rattle.std.proofs.Common.{◌≡◌, ℕ, ◌+◌, ◌-◌, ◌*◌, ◌/◌, ◌%◌, ◌^◌, ◌<◌, ◌≤◌, refl, sym, ap, ◌∙◌, subst, ◌⊎◌, inl, inr, true, false, min, le_trans, le-add_right, zero-add, arith}
 use lib.Ieee.{Float, binary32, binary64, fits, le, to_bits, of_bits}
 use lib.Ieee.Bits.{of_bits-to_bits}
 use Rattle.floats.specs.Operations.{◌⊕◌, ◌⊗◌, f64}

@@ -1,8 +1,5 @@
 -- (a×z + b)×z + c, nested, beside a×z² + (b×z + c): the same but for the roundings, by the laws on sums and products in another order (`regrouped`). Assumes nothing.
-use mathlib.Core.Bool.{Bool, ◌&&◌}
-use Prim.Native.Nat.{ℕ, ◌+◌}
-use native.Mathlib.Omega.{arith}
-use lib.Dec.{T}
+use Rattle.std.proofs.Common.{ℕ, ◌+◌, Bool, ◌&&◌, arith, T}
 use lib.Ieee.{Float}
 use Rattle.floats.specs.Operations.{◌⊕◌, ◌⊗◌}
 use Rattle.bounds.proofs.Scales.{S, unit, unit_left, Bound, ok, sum_k, product_k, add_bound, mul_bound}

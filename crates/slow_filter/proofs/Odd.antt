@@ -1,11 +1,6 @@
 -- The pattern that the slow path rounds to odd: for a sum from 1/2 to 2, and not at the ends, it is one from the sum's pattern at most, and the pattern of a value from 1/2 to 2
 -- (`odd_of`). Assumes nothing.
-use mathlib.Core.Path.{◌≡◌, sym}
-use mathlib.Core.Bool.{Bool, true, false, cond}
-use Prim.Native.Nat.{ℕ, ◌+◌, ◌-◌, ◌*◌, ◌%◌, ◌^◌, ◌≤◌}
-use native.Mathlib.Nat.{le_trans, le_of_eq, not-le_of_lt}
-use native.Mathlib.Omega.{arith}
-use lib.Dec.{lit≤, lit<}
+use Rattle.std.proofs.Common.{◌≡◌, ℕ, ◌+◌, ◌-◌, ◌*◌, ◌%◌, ◌^◌, ◌≤◌, sym, Bool, true, false, cond, le_trans, le_of_eq, not-le_of_lt, arith, lit≤, lit<}
 use lib.Ieee.{Float, nan, inf, fin, binary64, lt, to_bits}
 use Rattle.floats.specs.Operations.{◌⊕◌}
 use Rattle.floats.proofs.Laws.Units.{exponent}

@@ -1,10 +1,6 @@
 -- The plain pattern of a t from -149.5 to -128 that is wide of the switches is that of a value from 1/2 to 2 (`plain_unscaled`), and so is that of a t of at most 2^-16 in size
 -- (`near_one_around`). Assumes nothing.
-use mathlib.Core.Path.{◌≡◌}
-use mathlib.Core.Bool.{true}
-use Prim.Native.Nat.{◌-◌, ◌*◌, ◌^◌}
-use lib.Dec.{T, lit<}
-use lib.IntN.{pos, negsuc}
+use Rattle.std.proofs.Common.{◌≡◌, ◌-◌, ◌*◌, ◌^◌, true, T, lit<, pos, negsuc}
 use lib.Ieee.{Float, fin, binary64, fits, le}
 use Rattle.double_double.specs.declared.DoubleDouble.{DoubleDouble}
 use Rattle.special.specs.Special.{zero}

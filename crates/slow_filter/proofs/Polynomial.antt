@@ -1,10 +1,6 @@
 -- The polynomials of the power, side by side: where z and z' are 3/2 × 2^-29 from each other, and a little, and at most 1/64 in size, hi of the slow path's is less than 1.053 × 2^-29 from the
 -- plain one (`poly_beside`). Both are brought to Horner's form, in which the coefficients are compared one by one. Numbers are on the scale of 1, where 2^53 is 1. Assumes nothing.
-use mathlib.Core.Path.{◌≡◌, refl, subst}
-use mathlib.Core.Bool.{Bool, ◌&&◌}
-use Prim.Native.Nat.{ℕ, ◌+◌, ◌*◌, ◌^◌}
-use native.Mathlib.Omega.{arith}
-use lib.Dec.{T, leb, leb→le}
+use Rattle.std.proofs.Common.{◌≡◌, ℕ, ◌+◌, ◌*◌, ◌^◌, refl, subst, Bool, ◌&&◌, arith, T, leb}
 use lib.Ieee.{Float, binary64, fits, of_bits}
 use Rattle.floats.specs.Operations.{◌⊕◌, ◌⊗◌}
 use Rattle.floats.proofs.Laws.Sums.{add_turned}
@@ -13,13 +9,13 @@ use Rattle.double_double.specs.DoubleDouble.{from_exact_add, from_exact_mult, qu
 use Rattle.tables.specs.Tables.{entry, expf_poly_q, exp2_poly_q2}
 use Rattle.fast_path.specs.Fast.{expf_poly}
 use Rattle.slow_path.specs.Slow.{q2, with_term, next_exp2, highest_exp2, compoundf_exp2_poly2}
-use Rattle.bounds.proofs.Values.{plus, less}
 use Rattle.bounds.proofs.Scales.{S, unit, unit_left, Bound, at, ok, sum_k, product_k, add_bound, mul_bound, fmla_bound, within, tested}
 use Rattle.bounds.proofs.Distances.{Apart, apart_at, apart_through, add_apart}
 use Rattle.bounds.proofs.Apart.{apart_same, sum_apart_k, product_apart_k, sum_apart, product_apart}
 use Rattle.bounds.proofs.Compared.{Positive, positive_at, positive_add}
 use Rattle.slow_path.proofs.Coefficients.{q2_first}
 use Rattle.filter.specs.Plain.{plain_expf_poly}
+use Rattle.slow_filter.proofs.SlowFactor.{apart, tested_apart}
 use Rattle.slow_filter.proofs.Regrouped.{sums_apart, spread_apart, products_apart}
 
 -- ---- two values side by side: both at most K, and A from each other
@@ -29,16 +25,8 @@ pub record Beside (A K : ℕ) (x x' : Float) : Type 0 where
   pub plain : Bound S K x'
 
 -- of two that are known, by computing
-abbrev under_by : ℕ → Float → Float → Bool
-under_by A x y = leb (plus x + less y) (less x + plus y + A * 2 ^ 1021)
-
-tested_beside : (A K : ℕ) (x y : Float) → T (under_by A x y) → T (under_by A y x) → T (within K x) → T (within K y) → Beside A K x y
-unfolding S
-tested_beside A K x y g h p q = record {
-  near = record { over = leb→le (plus x + less y) (less x + plus y + A * 2 ^ 1021) g; under = leb→le (plus y + less x) (less y + plus x + A * 2 ^ 1021) h };
-  slow = tested K x p;
-  plain = tested K y q;
-}
+tested_beside : (A K : ℕ) (x y : Float) → T (apart A x y) → T (within K x) → T (within K y) → Beside A K x y
+tested_beside A K x y t p q = record { near = tested_apart A x y t; slow = tested K x p; plain = tested K y q }
 
 -- ---- the coefficients
 -- of Q
@@ -49,11 +37,11 @@ q i = entry expf_poly_q i
 coefficients : Beside 0 (2 ^ 53) (q2 0) (q 0) × Beside 223701 (45427 * 2 ^ 37) (q2 1) (q 1) × Beside 46518 (15744 * 2 ^ 37) (q2 3) (q 2) × Beside 3665113011 (3638 * 2 ^ 37) (q2 5) (q 3) × Beside 525028066 (631 * 2 ^ 37) (q2 7) (q 4)
 unfolding entry expf_poly_q exp2_poly_q2 of_bits fits
 coefficients = (
-  tested_beside 0 (2 ^ 53) (q2 0) (q 0) tt tt tt tt,
-  tested_beside 223701 (45427 * 2 ^ 37) (q2 1) (q 1) tt tt tt tt,
-  tested_beside 46518 (15744 * 2 ^ 37) (q2 3) (q 2) tt tt tt tt,
-  tested_beside 3665113011 (3638 * 2 ^ 37) (q2 5) (q 3) tt tt tt tt,
-  tested_beside 525028066 (631 * 2 ^ 37) (q2 7) (q 4) tt tt tt tt,
+  tested_beside 0 (2 ^ 53) (q2 0) (q 0) tt tt tt,
+  tested_beside 223701 (45427 * 2 ^ 37) (q2 1) (q 1) tt tt tt,
+  tested_beside 46518 (15744 * 2 ^ 37) (q2 3) (q 2) tt tt tt,
+  tested_beside 3665113011 (3638 * 2 ^ 37) (q2 5) (q 3) tt tt tt,
+  tested_beside 525028066 (631 * 2 ^ 37) (q2 7) (q 4) tt tt tt,
 )
 
 -- the others of Q2: at most 0.00135, 0.00017, and 2^-16
@@ -108,6 +96,10 @@ step {K = K} {x = x} {x' = x'} {c = c} {c' = c'} {z = z} {z' = z'} E M p r b f g
     first : (a b c d : Bool) → T (a && b && c && d) → T a
     first a b c d h = grind arith
 
+-- ---- what the terms of degree 5 and above add to the coefficient of degree 4
+abbrev pub above : Float → Float
+above z = dd_fmla (dd_fmla (q2 11) z (q2 10)) (z ⊗ z) (dd_fmla (q2 9) z (q2 8)) ⊗ z
+
 -- ---- all of it
 pub record PolyBeside (p p' : Float) : Type 0 where
   pub slow : Positive (7 * 2 ^ 50) (9 * 2 ^ 50) p
@@ -115,12 +107,7 @@ pub record PolyBeside (p p' : Float) : Type 0 where
   pub near : Apart S 17664400 p p'
 
 module _ (z : DoubleDouble) (z' : Float) (b : Beside apart_z (2 ^ 47) z.hi z') where
-  -- what the terms of degree 5 and above add to the coefficient of degree 4
-  above : Float
-  above = dd_fmla (dd_fmla (q2 11) z.hi (q2 10)) (z.hi ⊗ z.hi) (dd_fmla (q2 9) z.hi (q2 8)) ⊗ z.hi
-
-  above_bound : Bound S (91 * 2 ^ 31) above
-  unfolding above
+  above_bound : Bound S (91 * 2 ^ 31) (above z.hi)
   above_bound =
       let one = unit_left unit in
       let h2 = at (2 ^ 42) (mul_bound one b.slow b.slow tt tt) tt in
@@ -128,11 +115,11 @@ module _ (z : DoubleDouble) (z' : Float) (b : Beside apart_z (2 ^ 47) z.hi z') w
       let c5 = at (89 * 2 ^ 37) (fmla_bound one higher_sizes.1 b.slow higher_sizes.0 tt) tt in
       at (91 * 2 ^ 31) (mul_bound one (at (90 * 2 ^ 37) (fmla_bound one c7 h2 c5 tt) tt) b.slow tt tt) tt
 
-  hi_is : q2 0 ⊕ (q2 1 ⊕ (q2 3 ⊕ (q2 5 ⊕ (q2 7 ⊕ above) ⊗ z.hi) ⊗ z.hi) ⊗ z.hi) ⊗ z.hi ≡ (compoundf_exp2_poly2 z).hi
-  unfolding above compoundf_exp2_poly2 with_term next_exp2 highest_exp2 quick_mult from_exact_mult from_exact_add
+  hi_is : q2 0 ⊕ (q2 1 ⊕ (q2 3 ⊕ (q2 5 ⊕ (q2 7 ⊕ above z.hi) ⊗ z.hi) ⊗ z.hi) ⊗ z.hi) ⊗ z.hi ≡ (compoundf_exp2_poly2 z).hi
+  unfolding compoundf_exp2_poly2 with_term next_exp2 highest_exp2 quick_mult from_exact_mult from_exact_add
   hi_is = refl
 
-  degree_4 : Beside 195946040035 (634 * 2 ^ 37) (q2 7 ⊕ above) (q 4)
+  degree_4 : Beside 195946040035 (634 * 2 ^ 37) (q2 7 ⊕ above z.hi) (q 4)
   degree_4 = record {
     near = apart_through (add_apart coefficients.4.slow above_bound tt) coefficients.4.near;
     slow = at (634 * 2 ^ 37) (add_bound coefficients.4.slow above_bound tt) tt;

@@ -1,11 +1,6 @@
 -- The accurate power of two beside the plain one, for a t and a t' that are 2^-29 from each other, where t' is clear of the switches of k and of the index and k is not 0: the answer is a
 -- pattern, scaled by the same k and narrowed, that is 2^25 from the plain one at most (`power_of`). Assumes nothing.
-use mathlib.Core.Path.{◌≡◌, refl, sym, ap, ◌∙◌, subst}
-use mathlib.Core.Logic.{◌⊎◌, inl, inr}
-use mathlib.Core.Bool.{Bool, false, not, cond, ◌&&◌}
-use Prim.Native.Nat.{ℕ, ◌+◌, ◌-◌, ◌*◌, ◌^◌, ◌≤◌, ◌<◌}
-use native.Mathlib.Omega.{arith}
-use lib.IntN.{ℤ}
+use Rattle.std.proofs.Common.{◌≡◌, ℕ, ◌+◌, ◌-◌, ◌*◌, ◌^◌, ◌<◌, ◌≤◌, refl, sym, ap, ◌∙◌, subst, ◌⊎◌, inl, inr, Bool, false, not, cond, ◌&&◌, arith, ℤ}
 use lib.Ieee.{Float, binary64, fits, lt, le, eq, to_bits, to_signed}
 use Rattle.floats.specs.Operations.{◌⊕◌, ◌⊖◌, ◌⊗◌, f64}
 use Rattle.floats.specs.Narrowing.{narrowed, nearest_whole}

@@ -1,13 +1,6 @@
 -- t as the tests leave it. From -149.5 to -128 it is between the edges, not 0, and its k is from -150 to -127; wide of the switches, its part is at most 1/2 - 2^-27 in size, and its rest at most
 -- 1/64 - 2^-27. Next to 1 it is from 2^-25 to 2^-16 in size. Assumes nothing.
-use mathlib.Core.Path.{◌≡◌, refl, sym, subst}
-use mathlib.Core.Logic.{◌⊎◌, inl, inr}
-use mathlib.Core.Bool.{Bool, true, false, true≢false, ◌&&◌}
-use Prim.Native.Nat.{ℕ, ◌+◌, ◌-◌, ◌*◌, ◌^◌, ◌≤◌, ◌<◌}
-use native.Mathlib.Nat.{le_trans, lt_of_lt_of_le}
-use native.Mathlib.Omega.{arith}
-use lib.Dec.{T, lit≤, lit<}
-use lib.IntN.{pos}
+use Rattle.std.proofs.Common.{◌≡◌, ℕ, ◌+◌, ◌-◌, ◌*◌, ◌^◌, ◌<◌, ◌≤◌, refl, sym, subst, ◌⊎◌, inl, inr, Bool, true, false, true≢false, ◌&&◌, le_trans, lt_of_lt_of_le, arith, T, lit≤, lit<, pos}
 use lib.Ieee.{Float, nan, inf, fin, binary64, fits, sub, neg, le, ne, of_bits, to_signed}
 use lib.Ieee.Fits.{sub-fits}
 use Rattle.floats.specs.OnBits.{absolute}

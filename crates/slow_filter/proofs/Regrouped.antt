@@ -1,10 +1,7 @@
 -- The same operations in another order, side by side, on the scale of 1: a sum of three terms (`sums_apart`), a product of three factors (`products_apart`), and a product with a sum beside the sum
 -- of the products (`spread_apart`). Each is off the exact value by its roundings. Assumes nothing.
-use mathlib.Core.Path.{◌≡◌, subst}
-use Prim.Native.Nat.{ℕ, ◌+◌, ◌*◌, ◌/◌, ◌^◌, ◌≤◌, ◌<◌}
-use native.Mathlib.Nat.{le_trans, le_of_eq, le_of_mul-le-mul_right, mul-le-mul, mul-le-mul_right, mul-le-mul_left, mul-mul-mul_comm, add-le-add}
-use native.Mathlib.Omega.{arith}
-use lib.Dec.{T, lit≤}
+use Rattle.std.proofs.Common.{◌≡◌, ℕ, ◌+◌, ◌*◌, ◌/◌, ◌^◌, ◌<◌, ◌≤◌, subst, le_trans, le_of_eq, le_of_mul-le-mul_right, mul-le-mul, mul-le-mul_right, mul-le-mul_left, add-le-add, arith, T, lit≤}
+use native.Mathlib.Nat.{mul-mul-mul_comm}
 use lib.Ieee.{Float}
 use Rattle.floats.specs.Operations.{◌⊕◌, ◌⊗◌}
 use Rattle.bounds.proofs.Values.{per_one, plus, less, mag}
@@ -19,7 +16,7 @@ abbrev pub sums_k : ℕ → ℕ → ℕ → ℕ
 sums_k K L M = (sum_k K L + M) / 2 ^ 53 + 1 + ((K + L) / 2 ^ 53 + 1) + ((K + sum_k L M) / 2 ^ 53 + 1) + ((L + M) / 2 ^ 53 + 1)
 
 -- the two sides of a bound the other way round
-turned_sides : (p n q m c : ℕ) → m + p ≤ q + n + c → p + m ≤ n + q + c
+pub turned_sides : (p n q m c : ℕ) → m + p ≤ q + n + c → p + m ≤ n + q + c
 turned_sides p n q m c h = omega arith
 
 pub sums_apart : {K L M : ℕ} {x y z : Float} → Bound S K x → Bound S L y → Bound S M z → T (ok (K + L)) → T (ok (sum_k K L + M)) → T (ok (L + M)) → T (ok (K + sum_k L M)) → Apart S (sums_k K L M) (x ⊕ y ⊕ z) (x ⊕ (y ⊕ z))

@@ -1,12 +1,6 @@
 -- What the plain evaluation finds of x and y is the slow path's answer (`settled`): the accurate logarithm times y is near the plain t', the accurate power near the plain one, and no midpoint is between
 -- them. Assumes nothing.
-use Rattle.std.proofs.Common.{Some, None}
-use mathlib.Core.Path.{◌≡◌, refl, sym, ◌∙◌, subst}
-use mathlib.Core.Bool.{Bool, true, false, cond}
-use Prim.Native.Nat.{ℕ, zero, suc, ◌+◌, ◌*◌, ◌^◌, ◌<◌}
-use native.Mathlib.Nat.{lt_of_lt_of_le, zero-lt-suc}
-use native.Mathlib.Omega.{arith}
-use lib.Dec.{T, lit<}
+use Rattle.std.proofs.Common.{◌≡◌, ℕ, zero, suc, ◌+◌, ◌*◌, ◌^◌, ◌<◌, Some, None, refl, sym, ◌∙◌, subst, Bool, true, false, cond, lt_of_lt_of_le, zero-lt-suc, arith, T, lit<}
 use lib.Ieee.{Float, binary32, binary64, fits, le, lt, eq, ne, to_signed}
 use lib.Ieee.Fits.{mul-fits}
 use lib.Ieee.Scale.{finite}

@@ -1,12 +1,7 @@
 -- The accurate logarithm's polynomial beside the fast one: hi of `log2_poly2` is z.hi times a factor (`slow_is`), which for an s and a z at most 100 × 2^-53 from each other is
 -- 45000 × 2^-53 from the fast path's at most (`slow_beside`). Most of it is the term of degree 7, whose coefficient is that of degree 12. Numbers are on the scale of 1, where 2^53
 -- is 1. Assumes nothing.
-use mathlib.Core.Path.{◌≡◌, refl, ap₂, subst}
-use mathlib.Core.Bool.{Bool, true, false, ◌&&◌}
-use Prim.Native.Nat.{ℕ, ◌+◌, ◌*◌, ◌^◌}
-use native.Mathlib.Nat.{mul_comm}
-use lib.Dec.{T, leb, leb→le, lit<}
-use lib.IntN.{ℤ}
+use Rattle.std.proofs.Common.{◌≡◌, ℕ, ◌+◌, ◌*◌, ◌^◌, refl, ap₂, subst, Bool, true, false, ◌&&◌, mul_comm, T, leb, leb→le, lit<, ℤ}
 use lib.Ieee.{Float, fin, binary64, up, down, unlike, round, mul, of_bits}
 use lib.Ieee.Fits.{and_l, and_r}
 use Rattle.floats.specs.Operations.{◌⊕◌, ◌⊗◌}
@@ -45,10 +40,11 @@ unfolding log2_poly2 next_log2 with_term higher quick_mult quick_mult_f64 from_e
 slow_is z = refl
 
 -- ---- the coefficients beside the fast path's
-abbrev apart : ℕ → Float → Float → Bool
+-- two that are known are apart by computing
+abbrev pub apart : ℕ → Float → Float → Bool
 apart K x y = leb (plus x + less y) (less x + plus y + K * 2 ^ 1021) && leb (plus y + less x) (less y + plus x + K * 2 ^ 1021)
 
-tested_apart : (K : ℕ) (x y : Float) → T (apart K x y) → Apart S K x y
+pub tested_apart : (K : ℕ) (x y : Float) → T (apart K x y) → Apart S K x y
 unfolding S
 tested_apart K x y t = record {
   over = leb→le (plus x + less y) (less x + plus y + K * 2 ^ 1021) (and_l (leb (plus x + less y) (less x + plus y + K * 2 ^ 1021)) (leb (plus y + less x) (less y + plus x + K * 2 ^ 1021)) t);

@@ -1,9 +1,6 @@
 -- `from_exact_add` for a second term that is small beside the first: lo is one rounding at most and a little, and hi and lo together are the exact sum but for a little (`small_term`). With
 -- K and L for the sizes of the terms on a scale, a little is a 2^53th of L, and a few. The sum of such a pair is near that of the terms, or of near ones (`sums_near`). Assumes nothing.
-use Prim.Native.Nat.{ℕ, ◌+◌, ◌*◌, ◌/◌, ◌^◌, ◌≤◌}
-use native.Mathlib.Nat.{le_refl, le_trans, le_of_eq, add-le-add, mul-le-mul_right, mul_right_comm}
-use native.Mathlib.Omega.{arith}
-use lib.Dec.{T, leb, leb→le}
+use Rattle.std.proofs.Common.{ℕ, ◌+◌, ◌*◌, ◌/◌, ◌^◌, ◌≤◌, le_refl, le_trans, le_of_eq, add-le-add, mul-le-mul_right, mul_right_comm, arith, T, leb, leb→le}
 use lib.Ieee.{Float}
 use Rattle.floats.specs.Operations.{◌⊕◌, ◌⊖◌}
 use Rattle.double_double.specs.declared.DoubleDouble.{DoubleDouble}
@@ -14,6 +11,7 @@ use Rattle.bounds.proofs.Sums.{past, rounded_part}
 use Rattle.bounds.proofs.Scales.{Scale, Bound, at, ok, sum_k, one_part, small_limit, add_bound, sub_small_bound}
 use Rattle.bounds.proofs.Distances.{Apart, sum_off, add_apart_right}
 use Rattle.bounds.proofs.Apart.{apart_same}
+use Rattle.slow_filter.proofs.Regrouped.{turned_sides}
 
 -- ---- a difference that is small is off the exact one by a rounding of it
 sub_off : {μ : ℕ} {x y : Float} (K : ℕ) → Scale μ → Number x → Number y → Small (plus x + less y) (less x + plus y) (K * μ) → T (ok K)
@@ -84,13 +82,10 @@ pub near_parts : {μ E D F H K : ℕ} {a b h l : Float} {r : DoubleDouble} → P
 near_parts {μ} {E} {D} {F} {H} {K} {a} {b} {h} {l} {r} p f g c = record {
   low = c;
   over = go (plus r.hi) (less r.hi) (plus r.lo) (less r.lo) (plus h) (less h) (plus l) (less l) (less a + less b) (plus a + plus b) D H K μ p.over f.over g.over;
-  under = go (less r.hi) (plus r.hi) (less r.lo) (plus r.lo) (less h) (plus h) (less l) (plus l) (plus a + plus b) (less a + less b) D H K μ p.under (turned (plus r.hi) (less h) (less r.hi) (plus h) _ f.under)
-      (turned (plus r.lo) (less l) (less r.lo) (plus l) _ g.under);
+  under = go (less r.hi) (plus r.hi) (less r.lo) (plus r.lo) (less h) (plus h) (less l) (plus l) (plus a + plus b) (less a + less b) D H K μ p.under (turned_sides (less h) (plus h) (less r.hi) (plus r.hi) _ f.under)
+      (turned_sides (less l) (plus l) (less r.lo) (plus r.lo) _ g.under);
 }
   where
-    turned : (a b c d e : ℕ) → a + b ≤ c + d + e → b + a ≤ d + c + e
-    turned a b c d e h = omega arith
-
     go : (ph nh pl nl pi ni pm nm x y D H K μ : ℕ) → ph + pl + x ≤ nh + nl + y + D * μ → pi + nh ≤ ni + ph + H * μ → pm + nl ≤ nm + pl + K * μ → pi + pm + x ≤ ni + nm + y + (D + (H + K)) * μ
     go ph nh pl nl pi ni pm nm x y D H K μ f g h = omega arith
 
@@ -119,13 +114,10 @@ sums_near {μ} {E} {D} {H} {K} {L} {A} {a} {b} {c} {r} p h k l d f g =
     let w = sum_off k l g in
     record {
       over = go (plus x) (less x) (plus r.hi) (less r.hi) (plus r.lo) (less r.lo) (plus a) (less a) (plus b) (less b) (plus c) (less c) (plus y) (less y) ((H + E) / 2 ^ 53 + 1) D A ((K + L) / 2 ^ 53 + 1) μ o.upper p.over d.over w.lower;
-      under = turned (plus y) (less x) (less y) (plus x) _
-          (go (less x) (plus x) (less r.hi) (plus r.hi) (less r.lo) (plus r.lo) (less a) (plus a) (less b) (plus b) (less c) (plus c) (less y) (plus y) ((H + E) / 2 ^ 53 + 1) D A ((K + L) / 2 ^ 53 + 1) μ o.lower p.under (turned (less b) (plus c) (plus b) (less c) _ d.under) w.upper);
+      under = turned_sides (plus y) (less y) (plus x) (less x) _
+          (go (less x) (plus x) (less r.hi) (plus r.hi) (less r.lo) (plus r.lo) (less a) (plus a) (less b) (plus b) (less c) (plus c) (less y) (plus y) ((H + E) / 2 ^ 53 + 1) D A ((K + L) / 2 ^ 53 + 1) μ o.lower p.under (turned_sides (less b) (plus b) (less c) (plus c) _ d.under) w.upper);
     }
   where
-    turned : (a b c d e : ℕ) → b + a ≤ d + c + e → a + b ≤ c + d + e
-    turned a b c d e h = omega arith
-
     go : (px nx ph nh pl nl pa na pb nb pc nc py ny R D A T μ : ℕ) → px + (nh + nl) ≤ nx + (ph + pl) + R * μ → ph + pl + (na + nb) ≤ nh + nl + (pa + pb) + D * μ → pb + nc ≤ nb + pc + A * μ → ny + (pa + pc) ≤ py + (na + nc) + T * μ
         → px + ny ≤ nx + py + (R + D + A + T) * μ
     go px nx ph nh pl nl pa na pb nb pc nc py ny R D A T μ f g h i = omega arith

@@ -1,19 +1,13 @@
 -- Where the plain value is clear of every midpoint of two subnormal f32s, the slow path's narrows to what the plain one rounds to (`subnormal`): its pattern is between the two that are
 -- tested, so that its sum with 2^-97 is between two that are the same. Assumes nothing.
-use Rattle.std.proofs.Common.{Some}
-use mathlib.Core.Path.{◌≡◌, sym, ap, ◌∙◌, subst}
-use Prim.Native.Nat.{ℕ, suc, ◌+◌, ◌-◌, ◌*◌, ◌%◌, ◌^◌, ◌≤◌, ◌<◌}
-use native.Mathlib.Nat.{le_trans, le_of_eq, le_antisymm, lt_of_lt_of_le}
-use native.Mathlib.Omega.{arith}
-use borrow.Author.Tests.{eqb-true}
+use Rattle.std.proofs.Common.{◌≡◌, ℕ, suc, ◌+◌, ◌-◌, ◌*◌, ◌%◌, ◌^◌, ◌<◌, ◌≤◌, Some, Bool, not, sym, ap, ◌∙◌, subst, le_trans, le_of_eq, le_antisymm, lt_of_lt_of_le, arith, eqb-true, T, eqb, lit≤, lit<, ℤ, pos, negsuc}
 use Rattle.std.proofs.lemmas.Option.{cond_some}
-use lib.Dec.{eqb, lit≤, lit<}
-use lib.IntN.{ℤ, pos, negsuc}
-use lib.Ieee.{Float, binary32, binary64, of_bits}
-use lib.Ieee.Bits.{of_bits-to_bits}
+use lib.Ieee.{Float, binary32, binary64, is_nan, nan_bits, of_bits}
+use lib.Ieee.Bits.{nan_bits_is, of_bits-fits, of_bits-to_bits}
 use Rattle.floats.specs.Operations.{f64}
 use Rattle.floats.specs.Narrowing.{narrowed}
-use Rattle.floats.proofs.Laws.Narrow.{low_finite, low_pattern, narrowed_fits}
+use Rattle.std.proofs.lemmas.Float.{not_nan_f64_bits}
+use Rattle.floats.proofs.Laws.Narrow.{low_finite, low_sum_over, low_pattern, pattern_fits, pattern_number, narrowed_fits}
 use Rattle.floats.proofs.Laws.Sums.{sum_patterns_mono}
 use Rattle.fast_path.specs.Scaling.{scaled}
 use Rattle.filter.proofs.Power.{Unscaled}
@@ -56,6 +50,26 @@ sum_mono m n h k = sum_patterns_mono binary64 m n 0x39e0000000000000 h (lt_of_lt
 narrowed_is : (w : ℕ) → w < 897 * 2 ^ 52 → narrowed (f64 w) ≡ of_bits binary32 (subnormal_sum w - 0x39e0000000000000)
 unfolding subnormal_sum
 narrowed_is w h = sym (of_bits-to_bits binary32 (narrowed (f64 w)) (narrowed_fits (f64 w))) ∙ ap (of_bits binary32) (low_pattern w (low_finite w h) h)
+
+-- and it is one
+pub sum_over : (w : ℕ) → w < 897 * 2 ^ 52 → 0x39e0000000000000 ≤ subnormal_sum w
+unfolding subnormal_sum
+sum_over w h = low_sum_over w (low_finite w h) h
+
+module _ (w : ℕ) (h : w < 897 * 2 ^ 52) where
+  is_number : T (not (is_nan (f64 w)))
+  is_number = subst (λ (b : Bool). T (not b)) (nan_bits_is binary64 w) (not_nan_f64_bits w (below w h))
+    where
+      below : (w : ℕ) → w < 897 * 2 ^ 52 → w % 2 ^ 63 ≤ 0x7ff0000000000000
+      below w h = omega arith
+
+  pub sum_fits : subnormal_sum w - 0x39e0000000000000 < 2 ^ 32
+  unfolding subnormal_sum
+  sum_fits = subst (λ (n : ℕ). n < 2 ^ 32) (low_pattern w (low_finite w h) h) (pattern_fits (f64 w) (of_bits-fits binary64 w) is_number)
+
+  pub sum_number : T (not (nan_bits binary32 (subnormal_sum w - 0x39e0000000000000)))
+  unfolding subnormal_sum
+  sum_number = subst (λ (n : ℕ). T (not (nan_bits binary32 n))) (low_pattern w (low_finite w h) h) (pattern_number (f64 w) (of_bits-fits binary64 w) is_number)
 
 -- where the sums of w' - 2^25 and w' + 2^25 are the same, that of w is too
 sum_same : (w w' : ℕ) → Below w → Below w' → w ≤ w' + 2 ^ 25 → w' ≤ w + 2 ^ 25 → subnormal_sum (w' - 2 ^ 25) ≡ subnormal_sum (w' + 2 ^ 25) → subnormal_sum w ≡ subnormal_sum (w' - 2 ^ 25)

@@ -1,14 +1,8 @@
 -- The accurate logarithm beside x times the plain factor, for an x other than 0 below 2^-29 in size (`tiny_own`): no power of two is taken out of 1 + x, the inverse is 1, and z is x but for a
 -- few roundings of it, whether 1 + x is one sum or, below 2^-53, 1 and x (`parts_of`). All is on the scale of that product, k, where 2^53 is |k|, but for less than 1.
 -- Assumes nothing.
-use mathlib.Core.Path.{◌≡◌, refl, sym, ap, ap₂, ◌∙◌, subst}
-use mathlib.Core.Logic.{◌⊎◌, inl, inr}
-use mathlib.Core.Bool.{Bool, true, false, not, cond}
-use Prim.Native.Nat.{ℕ, zero, suc, ◌+◌, ◌-◌, ◌*◌, ◌/◌, ◌%◌, ◌^◌, ◌≤◌, ◌<◌, zero-le}
-use native.Mathlib.Nat.{le_refl, le_trans, le_of_eq, le_of_lt, lt_of_lt_of_le, le_of_mul-le-mul_right, mul_assoc, mul-le-mul, mul-le-mul_right, le-add_right, not-le_of_lt}
-use native.Mathlib.Omega.{arith}
-use lib.Dec.{T, leb, leb→le, nleb→lt, lit≤, lit<}
-use lib.IntN.{ℤ, negsuc}
+use Rattle.std.proofs.Common.{◌≡◌, ℕ, zero, suc, ◌+◌, ◌-◌, ◌*◌, ◌/◌, ◌%◌, ◌^◌, ◌<◌, ◌≤◌, refl, sym, ap, ap₂, ◌∙◌, subst, ◌⊎◌, inl, inr, Bool, true, false, not, cond, zero-le, le_refl, le_trans, le_of_eq, le_of_lt, lt_of_lt_of_le, le_of_mul-le-mul_right, mul_assoc, mul-le-mul, mul-le-mul_right, le-add_right, not-le_of_lt, arith, T, leb, leb→le, lit≤, lit<, ℤ, negsuc}
+use lib.Dec.{nleb→lt}
 use lib.Ieee.{Float, fin, binary32, binary64, minus, neg, add, sub, le, fits, to_bits, of_bits, of_int}
 use lib.Ieee.Fits.{add-fits}
 use lib.Ieee.Scale.{finite}

@@ -45,17 +45,25 @@ const NEXT_FROM: f64 = f64::from_bits(0x3e60_0000_0000_0000);
 
 const NEXT_TO: f64 = f64::from_bits(0x3ef0_0000_0000_0000);
 
-// The answer of the plain pattern w, from 1/2 to 2, and its k, from -150 to -127, where no midpoint of
-// two f32s is within 2^25 of the scaled pattern.
-fn rounded_subnormal(w: u64, k: i64) -> Option<f32>
-    requires w_least { 1022 * 2 ^ 52 ≤ w }
-    requires w_below { w < 1024 * 2 ^ 52 }
-    requires below_normal { spec.BelowNormal k }
-    ensures { result ≡ spec.subnormal_found w k }
+// The pattern of the sum of the pattern w and 2^-97.
+#[tactic(auto, unfolding(crate::specs::Subnormal::subnormal_sum))]
+fn subnormal_sum(w: u64) -> u64
+    requires { w < 898 * 2 ^ 52 }
+    ensures { result ≡ spec.subnormal_sum w }
 {
-    let m = scaled(w, k);
-    let low = f64::to_bits(f64::from_bits(m - 0x200_0000) + OFFSET);
-    let high = f64::to_bits(f64::from_bits(m + 0x200_0000) + OFFSET);
+    f64::to_bits(f64::from_bits(w) + OFFSET)
+}
+
+// The answer of the scaled pattern w, from 2^-151 to 2^-126, where no midpoint of two f32s is within 2^25
+// of it.
+#[tactic(auto, unfolding(crate::specs::Subnormal::rounded_subnormal))]
+fn rounded_subnormal(w: u64) -> Option<f32>
+    requires w_least { 872 * 2 ^ 52 ≤ w }
+    requires w_below { w < 897 * 2 ^ 52 }
+    ensures { result ≡ spec.rounded_subnormal w }
+{
+    let low = subnormal_sum(w - 0x200_0000);
+    let high = subnormal_sum(w + 0x200_0000);
     if low == high {
         Some(f32::from_bits((low - OFFSET_BITS) as u32))
     } else {
@@ -71,7 +79,7 @@ fn subnormal_power(t: f64) -> Option<f32>
 {
     let s = Split::of(t);
     if s.is_clear(SWITCH_GAP) {
-        rounded_subnormal(s.power(), s.k)
+        rounded_subnormal(scaled(s.power(), s.k))
     } else {
         None
     }

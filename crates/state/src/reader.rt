@@ -1,5 +1,6 @@
 // A state that is not broken.
 ghost use Rattle.std.specs.Prelude.{◌≡◌, cond};
+ghost use Rattle.state.specs.Tally.{total};
 ghost use Rattle.state.specs.Holding.{carried, broken};
 
 use crate::{Held, State, Tallies};
@@ -53,9 +54,10 @@ impl Reader {
         self.state.lines
     }
 
-    // The tallies.
+    // The tallies, which add up to the lines.
     pub fn tallies(self) -> Tallies
-        ensures { result ≡ self.tallies }
+        ensures value { result ≡ self.tallies }
+        ensures adds_up { total result ≡ self.lines }
     {
         self.state.tallies
     }

@@ -1,9 +1,8 @@
 -- `near_one_found` meets its contract: the plain value of a t of at most 2^-16 in size is from 1/2 to 2. Assumes nothing.
-use Rattle.std.proofs.Common.{◌-◌, ◌^◌, not, T, sym, subst, lt_of_lt_of_le, le_trans, lit≤}
-use lib.Ieee.{Float, nan, inf, fin, is_nan}
+use Rattle.std.proofs.Common.{◌-◌, ◌^◌, sym, subst, lt_of_lt_of_le, le_trans, lit≤}
 use lib.Ieee.Bits.{is_true}
-use lib.Ieee.Scale.{finite}
 use denote.Floats.{passes}
+use Rattle.special.proofs.Rule.{finite_number}
 use Rattle.bounds.proofs.Compared.{Positive, bits_around_one}
 use Rattle.slow_filter.proofs.Reach.{next_bound}
 use Rattle.slow_filter.proofs.Plain.{near_one_around}
@@ -14,12 +13,6 @@ around : (c : After-near_one_power) → Positive (2 ^ 52) (2 ^ 54 - 1) c.near_on
 around c =
     subst (Positive (2 ^ 52) (2 ^ 54 - 1)) (sym c.near_one_power.ensures)
     (near_one_around c.args.t (next_bound c.args.t (passes _ c.well_formed.0.1) (is_true _ c.requires)))
-
-finite_number : (x : Float) → T (finite x) → T (not (is_nan x))
-unfolding is_nan
-finite_number nan p = p
-finite_number (inf s) p = tt
-finite_number (fin s m e) p = tt
 
 pub float_to_bits-near_one_power : goal.float_to_bits-near_one_power
 float_to_bits-near_one_power c = finite_number _ (around (goal.at.float_to_bits-near_one_power c).After-near_one_power).number.plain

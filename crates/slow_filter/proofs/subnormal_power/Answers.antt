@@ -8,12 +8,14 @@ use Rattle.floats.proofs.Laws.Tests.{first, second}
 use Rattle.filter.specs.Plain.{part_of, rest_of, plain_pattern, clear_of_switches}
 use Rattle.filter.proofs.NotZero.{not_zero}
 use Rattle.slow_filter.specs.Plain.{switch_gap, subnormal_power}
-use Rattle.slow_filter.specs.Subnormal.{BelowNormal, subnormal_found}
+use Rattle.slow_filter.specs.Subnormal.{BelowNormal, rounded_subnormal, subnormal_found}
 use Rattle.slow_filter.proofs.Reach.{reach_edges, reach_some, reach_k}
 use Rattle.slow_filter.proofs.BelowNormal.{k_read}
 use Rattle.slow_filter.proofs.Plain.{plain_unscaled}
+use Rattle.slow_filter.proofs.Subnormal.{Below, scaled_below}
+use Rattle.fast_path.specs.Scaling.{scaled}
 use Rattle.slow_filter.proofs.subnormal_power.Goals as goal
-use Rattle.slow_filter.proofs.subnormal_power.Goals.{Start, After-of-s, After-is_clear, After-power}
+use Rattle.slow_filter.proofs.subnormal_power.Goals.{Start, After-of-s, After-is_clear, After-power, After-scaled}
 
 -- t as the contract asks for it
 module _ (c : Start) where
@@ -47,17 +49,26 @@ module _ (c : After-power) where
   k_is : to_z w64 (of_z w64 c.of-s.result.k) ≡ to_signed 63 (nearest_whole c.args.t)
   k_is = ap (λ (k : ℤ). to_z w64 (of_z w64 k)) c.of-s.ensures.k ∙ k_read _ k_below
 
+-- so the scaled pattern is from 2^-151 to 2^-126
+module _ (c : After-scaled) where
+  scaled_is : c.scaled.result ≡ scaled (plain_pattern c.args.t) (to_signed 63 (nearest_whole c.args.t))
+  scaled_is = c.scaled.ensures ∙ ap₂ scaled (pattern_is c.before.before) (k_is c.before.before)
+
+  range : Below c.scaled.result
+  range =
+      let start = c.before.before.before.before.before.before in
+      let u = plain_unscaled _ (held start) (high start) (low start) (sym (tested c.before.before.before.before) ∙ c.if-is_clear.true) in
+      rw scaled_is (scaled_below _ _ u (k_below c.before.before))
+
 pub rounded_subnormal-requires : goal.rounded_subnormal-requires
 rounded_subnormal-requires c =
-    let at = goal.at.rounded_subnormal-requires c in
-    let u = plain_unscaled _ (held at.Start) (high at.Start) (low at.Start) (sym (tested at.After-is_clear) ∙ c.if-is_clear.true) in
-    record { w_least = rw (pattern_is at.After-power) u.low; w_below = rw (pattern_is at.After-power) u.high; below_normal = rw (k_is at.After-power) (k_below at.After-power) }
+    let r = range (goal.at.rounded_subnormal-requires c).After-scaled in record { w_least = r.least; w_below = r.most }
 
 pub returns-then-is_clear : goal.returns-then-is_clear
-unfolding subnormal_power
+unfolding subnormal_power subnormal_found
 returns-then-is_clear c =
     let at = goal.at.returns-then-is_clear c in
-    c.rounded_subnormal.ensures ∙ ap₂ subnormal_found (pattern_is at.After-power) (k_is at.After-power) ∙ first _ _ None (sym (tested at.After-is_clear) ∙ c.if-is_clear.true)
+    c.rounded_subnormal.ensures ∙ ap rounded_subnormal (scaled_is at.After-scaled) ∙ first _ _ None (sym (tested at.After-is_clear) ∙ c.if-is_clear.true)
 
 pub returns-else-is_clear : goal.returns-else-is_clear
 unfolding subnormal_power

@@ -1,28 +1,23 @@
--- `answer_lines` meets its contract: what is written, and what the lines to come add to it, is all. Assumes nothing.
-use Prim.Native.Nat.{ℕ, ◌+◌, ◌-◌, ◌≤◌}
-use mathlib.Core.Path.{◌≡◌}
-use mathlib.Core.List.{List, ◌++◌}
-use lib.ListN.{length, drop}
+-- `answer_lines` meets its contract: as far as it has come, the lines are answered and counted. Assumes nothing.
+use Rattle.std.proofs.Common.{◌≡◌, ℕ, ◌+◌, List, ◌++◌, length, map}
 use Rattle.text.specs.Bytes.{put}
 use Rattle.state.specs.declared.Tallies.{Tallies}
-use Rattle.scan.specs.Complete.{lines, rest, line_end}
+use Rattle.scan.specs.Complete.{lines, rest}
 use Rattle.piece.specs.Counts.{counts}
 use Rattle.state.specs.Tally.{plus}
 use Rattle.piece.specs.Piece.{replies, answer_lines}
 use Rattle.piece.proofs.answer.answer_lines.Given as goal
 
--- at place i, whose line ends at `end`, `text` has been written
-pub record Done (p : List ℕ) (from : ℕ) (t₀ : Tallies) (out₀ : List ℕ) (at : ℕ) (text out : List ℕ) (i place : ℕ) (t : Tallies) (end : ℕ) : Type 0 where
-  pub i_within : i ≤ length p
-  pub at_end : end ≡ i + line_end (drop i p)
-  pub out_is : out ≡ put out₀ at text
-  pub place_is : place ≡ at + length text
-  pub answers : text ++ answer_lines (lines (drop i p)) ≡ answer_lines (lines (drop from p))
-  pub tallies : plus t (counts (replies (lines (drop i p)))) ≡ plus t₀ (counts (replies (lines (drop from p))))
-  pub left : rest (drop i p) ≡ rest (drop from p)
+-- the lines `ys` of p are answered and counted, and `left` is to come
+pub record Done (p : List ℕ) (t₀ : Tallies) (out₀ : List ℕ) (at : ℕ) (ys : List (List ℕ)) (left out : List ℕ) (place : ℕ) (t : Tallies) : Type 0 where
+  pub all_lines : lines p ≡ ys ++ lines left
+  pub same_rest : rest p ≡ rest left
+  pub out_is : out ≡ put out₀ at (answer_lines ys)
+  pub place_is : place ≡ at + length (answer_lines ys)
+  pub tallies_are : t ≡ plus t₀ (counts (replies ys))
 
-abbrev pub invariant-loop-end : goal.invariant-loop-end
-invariant-loop-end l = (text : List ℕ) × Done l.piece l.from l.initial.t l.initial.out l.at text l.out l.i l.place l.t l.end
+abbrev pub invariant-loop-line : goal.invariant-loop-line
+invariant-loop-line l = Done l.bytes l.initial.t l.initial.out l.at (map (λ x. x.now) l.yielded) l.lines.rest.now l.out l.place l.t
 
-abbrev pub decreases-loop-end : goal.decreases-loop-end
-decreases-loop-end l = length l.piece - l.i
+abbrev pub decreases-loop-line : goal.decreases-loop-line
+decreases-loop-line l = length (lines l.lines.rest.now)

@@ -9,7 +9,7 @@ pub split_at-requires : goal.split_at-requires
 split_at-requires c = omega (arith, line_end_within)
 
 pub returns-in_err-rest-clause-steps : goal.returns-in_err-rest-clause-steps
-unfolding lines
+unfolding lines rest
 returns-in_err-rest-clause-steps c = grind (arith, common_steps, no_line c.args.self.now.rest.now [])
 
 pub returns-clause-steps : goal.returns-clause-steps

@@ -1,2 +1,0 @@
--- The number that the contracts of `cuts` cite.
-pub mod Limits
