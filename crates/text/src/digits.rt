@@ -8,11 +8,7 @@ fn glyph(d: u32) -> u8
     requires { d < 16 }
     ensures { result ≡ Digits·glyph d }
 {
-    if d < 10 {
-        b'0' + d as u8
-    } else {
-        b'a' - 10 + d as u8
-    }
+    b"0123456789abcdef"[d as usize]
 }
 
 // How many decimal digits n has.
@@ -23,7 +19,8 @@ pub fn places(n: u32) -> usize
     n.checked_ilog10().unwrap_or(0) as usize + 1
 }
 
-// Fills `out` with the last digits of n in a base.
+// Fills `out` with the last digits of n in a base. Its places are counted: after `iter_mut().rev()` a
+// proof knows nothing of what was written.
 #[tactic(auto, using(crate::proofs::Put::digit_steps))]
 pub(crate) fn fill_digits(n: u32, base: u32, out: &mut [u8])
     requires base_above_one { 1 < base }
