@@ -8,11 +8,7 @@ fn glyph(d: u32) -> u8
     requires { d < 16 }
     ensures { result ≡ Digits·glyph d }
 {
-    if d < 10 {
-        b'0' + d as u8
-    } else {
-        b'a' - 10 + d as u8
-    }
+    b"0123456789abcdef"[d as usize]
 }
 
 // How many decimal digits n has.

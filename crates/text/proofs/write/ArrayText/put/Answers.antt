@@ -8,8 +8,8 @@ loop-text-preserved g c =
     let l = c.loop-text in
     let h : l.text-index < length c.args.self = search rules in
     record {
-      place = next_place _ _ _ c.text-item.result _ _ _ h l.invariant.place c.put-end.ensures.value;
-      bytes = next_put _ _ _ c.text-item.result _ _ _ _ _ h (omega (arith, l.invariant.place, c.requires, l.auto.out)) l.invariant.bytes c.put-end.ensures.out_after c.put-end.ensures.value;
+      place = next_place g.T.Text.bytes c.args.self l.text-index c.text-item.result l.end c.put-end.result _ h l.invariant.place c.put-end.ensures.value;
+      bytes = next_put g.T.Text.bytes c.args.self l.text-index c.text-item.result l.out _ _ l.end c.put-end.result h (omega (arith, l.invariant.place, c.requires, l.auto.out)) l.invariant.bytes c.put-end.ensures.out_after c.put-end.ensures.value;
     }
 
 pub returns-clause-out_after : goal.returns-clause-out_after
