@@ -1,9 +1,9 @@
 -- A piece whose first line carries on the one that is held. Assumes nothing.
-use Rattle.std.proofs.Common.{◌≡◌, ℕ, ◌+◌, ◌≤◌, List, [], ◌∷◌, ◌++◌, length, take, drop, refl, sym, ap, ◌∙◌, arith, length-append, length-drop, zero-add}
+use Rattle.std.proofs.Common.{◌≡◌, ℕ, ◌+◌, ◌≤◌, List, [], ◌∷◌, ◌++◌, length, take, drop, sym, ap, ◌∙◌, arith, length-append, zero-add}
 use lib.Seq.{take_all}
 use Rattle.replies.specs.Reply.{Told, reply_to, written}
 use Rattle.state.specs.declared.Carried.{Carried}
-use Rattle.scan.specs.Complete.{lines_from, rest_from, lines, rest, feeds, line_end}
+use Rattle.scan.specs.Complete.{lines_from, lines, line_end}
 use Rattle.state.specs.Holding.{kept}
 use Rattle.state.specs.Carry.{carry_on}
 use Rattle.state.specs.Tally.{none, plus}

@@ -1,14 +1,13 @@
 -- Answer lines and tallies over a list of lines, one line at a time. Assumes nothing.
-use Rattle.std.proofs.Common.{◌≡◌, ℕ, suc, lit<, ◌+◌, ◌-◌, ◌*◌, ◌≤◌, ◌<◌, Bool, true, false, cond, List, [], ◌∷◌, ◌++◌, length, eqb, refl, sym, ap, ◌∙◌, arith, length-append, append_assoc, append-nil, add-zero, zero-add, add_assoc}
-use Rattle.std.proofs.lemmas.Bool.Decides.{nat_tests}
-use Rattle.compound.specs.Answer.{Via, rule, whole, edge, fast, slow}
+use Rattle.std.proofs.Common.{◌≡◌, ℕ, suc, lit<, ◌+◌, ◌*◌, ◌≤◌, Bool, true, false, cond, List, [], ◌∷◌, ◌++◌, length, eqb, refl, sym, ap, ◌∙◌, arith, length-append, append_assoc, append-nil, add-zero, zero-add, add_assoc}
+use Rattle.compound.specs.declared.Route.{Route}
+use Rattle.compound.specs.declared.Route.TheVariants.{Rule as rule, Whole as whole, Edge as edge, Fast as fast, Slow as slow}
 use Rattle.replies.specs.Reply.{Told, answered, bad, reply_to, written}
-use Rattle.lines.specs.Format.{longest}
 use Rattle.replies.proofs.Lengths.{over_long_lem, answer_length}
 use Rattle.state.specs.declared.Tallies.{Tallies}
 use Rattle.scan.specs.Complete.{line_feed, lines_from, rest_from, lines, feeds}
 use Rattle.state.specs.Holding.{kept}
-use Rattle.scan.proofs.Cutting.{FirstLine, length_lines, feeds_nil, feeds_first}
+use Rattle.scan.proofs.Cutting.{length_lines, feeds_nil, feeds_first}
 use Rattle.state.proofs.Holds.{Fits, short, long, fits, kept_short, kept_long}
 use Rattle.state.specs.Tally.{none, plus, total}
 use Rattle.piece.specs.Counts.{by_route, one, counts}
@@ -65,7 +64,7 @@ pub total_plus : (t u : Tallies) → total (plus t u) ≡ total t + total u
 unfolding total plus
 total_plus t u = omega arith
 
-total_route : (v : Via) → total (by_route v) ≡ 1
+total_route : (v : Route) → total (by_route v) ≡ 1
 unfolding total by_route
 total_route rule = refl
 total_route whole = refl

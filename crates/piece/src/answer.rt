@@ -27,7 +27,8 @@ struct Progress<'a> {
 pub fn take_piece(reader: Reader, piece: &[u8], out: &mut [u8]) -> Taken
     requires countable { reader.lines + feeds piece.now ≤ most_lines }
     requires room { length (answer_lines (added reader piece.now)) ≤ length out.old }
-    ensures value { result ≡ record { state = after reader piece.now; wrote = length (answer_lines (added reader piece.now)) } }
+    ensures value { result
+        ≡ record { state = after reader piece.now; wrote = length (answer_lines (added reader piece.now)) } }
     ensures out_after { out.new ≡ put out.old 0 (answer_lines (added reader piece.now)) }
 {
     let tallies = reader.tallies();
@@ -60,7 +61,12 @@ fn state_of(held: Held, tallies: Tallies) -> State
 }
 
 // Answers the complete lines of some bytes.
-fn answer_lines<'a>(bytes: &'a [u8], tallies: Tallies, out: &mut [u8], at: usize) -> Progress<'a>
+fn answer_lines<'a>(
+    bytes: &'a [u8],
+    mut tallies: Tallies,
+    out: &mut [u8],
+    mut at: usize,
+) -> Progress<'a>
     requires countable { total tallies + feeds bytes.now ≤ most_lines }
     requires room { at + length (answer_lines (lines bytes.now)) ≤ length out.old }
     ensures at_value { result.at ≡ at + length (answer_lines (lines bytes.entry.now)) }
@@ -68,17 +74,16 @@ fn answer_lines<'a>(bytes: &'a [u8], tallies: Tallies, out: &mut [u8], at: usize
     ensures tallies_counted { result.tallies ≡ plus tallies (counts (replies (lines bytes.entry.now))) }
     ensures out_after { out.new ≡ put out.old at (answer_lines (lines bytes.entry.now)) }
 {
-    let mut place = at;
-    let mut t = tallies;
+    // A `for` over `&mut lines` would leave nothing known of what `lines` has left.
     let mut lines = Lines { rest: bytes };
     while let Some(line) = lines.next() {
         let reply = reply_to(line);
-        place = write_reply(reply, out, place);
-        t = counted(t, reply);
+        at = write_reply(reply, out, at);
+        tallies = counted(tallies, reply);
     }
     Progress {
-        at: place,
+        at,
         rest: lines.rest,
-        tallies: t,
+        tallies,
     }
 }

@@ -3,6 +3,7 @@ ghost use Rattle.std.specs.Prelude.{◌≡◌, MatchResult};
 ghost use Rattle.replies.specs.Reply.{told, reply_to};
 ghost use Rattle.piece.specs.Piece.{FirstReply, NoneEnds};
 
+use lines::Refusal;
 use replies::{Reply, reply_to};
 use state::{Held, Piece};
 
@@ -14,15 +15,17 @@ pub(crate) struct First<'a> {
 }
 
 // The first line that ends in a piece; or, where none does, what is held then.
-#[tactic(auto, using(crate::proofs::FirstLine::end_within, crate::proofs::FirstLine::first_reply, crate::proofs::FirstLine::none_ends))]
+#[tactic(auto, using(crate::proofs::FirstLine::end_within))]
 pub(crate) fn first_reply<'a>(held: Held, piece: &'a [u8]) -> Result<First<'a>, Held>
-    ensures { MatchResult result (λ first. FirstReply held piece.entry.now (told first.reply) first.others.now) (λ left. NoneEnds held piece.entry.now left) }
+    ensures { MatchResult result
+        (λ first. FirstReply held piece.entry.now (told first.reply) first.others.now)
+        (λ left. NoneEnds held piece.entry.now left) }
 {
-    let start = Piece {
+    let unread = Piece {
         bytes: piece,
         at: 0,
     };
-    let line = start.carry(held);
+    let line = unread.carry(held);
     match piece[line.end..].split_first() {
         Some((_, others)) => Ok(First {
             reply: reply_to_held(&line.held),
@@ -33,12 +36,12 @@ pub(crate) fn first_reply<'a>(held: Held, piece: &'a [u8]) -> Result<First<'a>, 
 }
 
 // What the line that is held is answered with.
-#[tactic(auto, using(replies::proofs::Lengths::over_long_lem), unfolding(replies::specs::Reply::told))]
+#[tactic(auto, using(replies::proofs::Lengths::over_long_lem), unfolding(lines::specs::Format::number, replies::specs::Reply::told))]
 fn reply_to_held(held: &Held) -> Reply
     ensures { told result ≡ reply_to held.now }
 {
     match held.line() {
         Some(line) => reply_to(line),
-        None => Reply::Bad(1),
+        None => Err(Refusal::TooLong),
     }
 }

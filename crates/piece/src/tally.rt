@@ -1,29 +1,28 @@
 // Counting a reply.
 ghost use Rattle.std.specs.Prelude.{◌≡◌, ◌<◌};
 ghost use Rattle.replies.specs.Reply.{told};
-ghost use Rattle.state.specs.Tally.{plus, total as Tally·total};
+ghost use Rattle.state.specs.Tally.{plus, total};
 ghost use Rattle.piece.specs.Counts.{one};
 ghost use Rattle.piece.specs.Piece.{most_lines};
 
-use compound::Answer;
+use compound::Route;
 use replies::Reply;
 use state::Tallies;
 
 // The tallies with one line more.
+#[tactic(auto, unfolding(replies::specs::Reply::told, state::specs::Tally::total, state::specs::Tally::plus, crate::specs::Counts::one, crate::specs::Counts::by_route))]
 pub(crate) fn counted(t: Tallies, reply: Reply) -> Tallies
-    requires { Tally·total t < most_lines }
+    requires { total t < most_lines }
     ensures { result ≡ plus t (one (told reply)) }
 {
     let mut next = t;
-    match reply {
-        Reply::Answered(_, answer) => match answer {
-            Answer::Rule(_) => next.rule = t.rule + 1,
-            Answer::Whole(_) => next.whole = t.whole + 1,
-            Answer::Edge(_) => next.edge = t.edge + 1,
-            Answer::Fast(_) => next.fast = t.fast + 1,
-            Answer::Slow(_) => next.slow = t.slow + 1,
-        },
-        Reply::Bad(_) => next.bad = t.bad + 1,
+    match reply.map(|answered| answered.answer.route()) {
+        Ok(Route::Rule) => next.rule += 1,
+        Ok(Route::Whole) => next.whole += 1,
+        Ok(Route::Edge) => next.edge += 1,
+        Ok(Route::Fast) => next.fast += 1,
+        Ok(Route::Slow) => next.slow += 1,
+        Err(_) => next.bad += 1,
     }
     next
 }

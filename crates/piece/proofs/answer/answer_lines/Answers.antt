@@ -1,8 +1,8 @@
 -- `answer_lines` meets its contract: as far as it has come, the lines are answered and counted. Assumes nothing.
-use Rattle.std.proofs.Common.{◌≡◌, ℕ, ◌+◌, ◌≤◌, ◌<◌, List, [], ◌∷◌, ◌++◌, length, map, refl, sym, ap, ◌∙◌, arith, append-nil, append_assoc, length-append, add-zero}
+use Rattle.std.proofs.Common.{◌≡◌, ℕ, ◌+◌, ◌≤◌, ◌<◌, List, [], ◌∷◌, ◌++◌, length, refl, sym, ap, ◌∙◌, arith, append-nil, append_assoc, length-append, add-zero}
 use Rattle.std.proofs.lemmas.List.{map-append}
 use Rattle.text.specs.Bytes.{put}
-use Rattle.text.proofs.Put.{length_put, put_put, put_nothing}
+use Rattle.text.proofs.Put.{put_put, put_nothing}
 use Rattle.replies.specs.Reply.{Told, reply_to, written}
 use Rattle.state.specs.declared.Tallies.{Tallies}
 use Rattle.scan.specs.Complete.{lines, rest, feeds}
@@ -10,7 +10,7 @@ use Rattle.scan.proofs.Cutting.{length_lines}
 use Rattle.state.specs.Tally.{plus, total}
 use Rattle.piece.specs.Counts.{one, counts}
 use Rattle.piece.specs.Piece.{replies, joined, answer_lines, most_lines}
-use Rattle.piece.proofs.Replied.{answer_append, answer_push, counts_push, length_first, counts_append, counts_first, plus_assoc, plus_none, total_plus, total_counts}
+use Rattle.piece.proofs.Replied.{answer_append, answer_push, counts_push, length_first, plus_assoc, plus_none, total_plus, total_counts}
 use Rattle.piece.proofs.answer.answer_lines.Goals as goal
 use Rattle.piece.proofs.answer.answer_lines.Invariants.{Done}
 
@@ -72,17 +72,17 @@ nothing_done p t₀ out₀ at = record { all_lines = refl; same_rest = refl; out
 pub loop-line-init : goal.loop-line-init
 loop-line-init c = nothing_done _ _ _ _
 
-pub write_reply-place-requires : goal.write_reply-place-requires
-write_reply-place-requires c = line_room _ _ _ _ _ _ _ _ _ c.loop-line.invariant _ _ _ c.in-Some.ensures.steps.0 c.reply_to-reply.ensures c.loop-line.auto.out c.requires.room
+pub write_reply-at-requires : goal.write_reply-at-requires
+write_reply-at-requires c = line_room _ _ _ _ _ _ _ _ _ c.loop-line.invariant _ _ _ c.in-Some.ensures.steps.0 c.reply_to-reply.ensures c.loop-line.auto.out c.requires.room
 
-pub counted-t-requires : goal.counted-t-requires
-counted-t-requires c = line_counts _ _ _ _ _ _ _ _ _ c.loop-line.invariant _ _ _ c.in-Some.ensures.steps.0 c.reply_to-reply.ensures c.loop-line.auto.out c.requires.countable
+pub counted-tallies-requires : goal.counted-tallies-requires
+counted-tallies-requires c = line_counts _ _ _ _ _ _ _ _ _ c.loop-line.invariant _ _ _ c.in-Some.ensures.steps.0 c.reply_to-reply.ensures c.loop-line.auto.out c.requires.countable
 
 pub loop-line-preserved : goal.loop-line-preserved
 loop-line-preserved c =
     let s = c.in-Some.ensures.steps in
     rw map-append
-    (next _ _ _ _ _ _ _ _ _ c.loop-line.invariant _ _ _ s.0 c.reply_to-reply.ensures c.loop-line.auto.out c.requires.room s.1 _ _ _ c.write_reply-place.ensures.value c.write_reply-place.ensures.out_after c.counted-t.ensures)
+    (next _ _ _ _ _ _ _ _ _ c.loop-line.invariant _ _ _ s.0 c.reply_to-reply.ensures c.loop-line.auto.out c.requires.room s.1 _ _ _ c.write_reply-at.ensures.value c.write_reply-at.ensures.out_after c.counted-tallies.ensures)
 
 pub returns : goal.returns
 returns c =

@@ -17,7 +17,7 @@ pub record Done (p : List ℕ) (t₀ : Tallies) (out₀ : List ℕ) (at : ℕ) (
   pub tallies_are : t ≡ plus t₀ (counts (replies ys))
 
 abbrev pub invariant-loop-line : goal.invariant-loop-line
-invariant-loop-line l = Done l.bytes l.initial.t l.initial.out l.at (map (λ x. x.now) l.yielded) l.lines.rest.now l.out l.place l.t
+invariant-loop-line l = Done l.bytes l.fn.tallies l.initial.out l.fn.at (map (λ x. x.now) l.yielded) l.lines.rest.now l.out l.at l.tallies
 
 abbrev pub decreases-loop-line : goal.decreases-loop-line
 decreases-loop-line l = length (lines l.lines.rest.now)

@@ -1,8 +1,8 @@
 -- `take_piece` meets its contract: the line that is held first, then the other lines, then what is left. Assumes nothing.
-use Rattle.std.proofs.Common.{◌≡◌, ℕ, ◌+◌, ◌≤◌, ◌<◌, List, [], ◌++◌, length, refl, sym, ap, ◌∙◌, arith, add-zero, zero-add, length-append}
+use Rattle.std.proofs.Common.{◌≡◌, ℕ, ◌+◌, ◌≤◌, List, ◌++◌, length, sym, ap, ◌∙◌, arith, length-append}
 use Rattle.text.specs.Bytes.{put}
 use Rattle.text.proofs.Put.{length_put, put_put, put_nothing}
-use Rattle.replies.specs.Reply.{Told, told, written}
+use Rattle.replies.specs.Reply.{Told, written}
 use Rattle.state.specs.declared.Tallies.{Tallies}
 use Rattle.state.specs.declared.State.{State}
 use Rattle.piece.specs.declared.Taken.{Taken}
@@ -10,10 +10,10 @@ use Rattle.scan.specs.Complete.{rest_from, lines, rest, feeds}
 use Rattle.piece.specs.Counts.{one, counts}
 use Rattle.state.specs.Tally.{plus, total}
 use Rattle.state.specs.Holding.{hold, carried, kept}
-use Rattle.piece.specs.Piece.{most_lines, replies, answer_lines, added, after, FirstReply, NoneEnds}
+use Rattle.piece.specs.Piece.{replies, answer_lines, added, after, FirstReply, NoneEnds}
 use Rattle.state.proofs.Holds.{hold_kept}
 use Rattle.piece.proofs.Replied.{lines_total, plus_assoc, plus_none, total_plus, total_one}
-use Rattle.piece.proofs.FirstLine.{answers_more, length_more, counts_more, no_answers, no_counts}
+use Rattle.piece.proofs.FirstLine.{answers_more, counts_more, no_answers, no_counts}
 use Rattle.piece.proofs.answer.take_piece.Goals as goal
 
 -- a state of a line and tallies, and the bytes written
@@ -128,6 +128,6 @@ returns-in-Ok c =
     let v = c.tallies-tallies.ensures.value in
     record {
       value = ap (λ k. record { state = k; wrote = c.answer_lines-done.result.at }) c.state_of-in-Ok.ensures
-        ∙ all_taken c.args.reader c.args.piece.now _ _ f (rw v at c.tallies-tallies.ensures.adds_up) _ (rw v at c.counted.ensures) _ c.answer_lines-done.ensures.tallies_counted _ _ _ (c.extended.ensures ∙ ap (λ k. kept (k ++ c.answer_lines-done.result.rest.now)) c.empty.ensures ∙ ap kept c.answer_lines-done.ensures.rest_follows) c.write_reply-at.ensures.value c.answer_lines-done.ensures.at_value;
+          ∙ all_taken c.args.reader c.args.piece.now _ _ f (rw v at c.tallies-tallies.ensures.adds_up) _ (rw v at c.counted.ensures) _ c.answer_lines-done.ensures.tallies_counted _ _ _ (c.extended.ensures ∙ ap (λ k. kept (k ++ c.answer_lines-done.result.rest.now)) c.empty.ensures ∙ ap kept c.answer_lines-done.ensures.rest_follows) c.write_reply-at.ensures.value c.answer_lines-done.ensures.at_value;
       out_after = all_put c.args.reader c.args.piece.now _ _ f c.args.out.now c.requires.room _ _ c.write_reply-at.ensures.out_after c.write_reply-at.ensures.value _ c.answer_lines-done.ensures.out_after;
     }

@@ -1,7 +1,7 @@
 -- `first_reply` meets its contract. Assumes nothing.
-use Rattle.std.proofs.Common.{ℕ, sym, ◌∙◌, arith, length-drop, length-take}
+use Rattle.std.proofs.Common.{sym, ◌∙◌, arith, length-drop}
 use Rattle.scan.proofs.Cutting.{to_end}
-use Rattle.piece.proofs.FirstLine.{none_ends, first_reply, end_within}
+use Rattle.piece.proofs.FirstLine.{none_ends, first_reply}
 use Rattle.piece.proofs.first.first_reply.Goals as goal
 
 pub returns-in-Some : goal.returns-in-Some
