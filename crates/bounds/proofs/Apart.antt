@@ -42,16 +42,10 @@ sum_apart {μ} {A} {B} {K} {L} {M} {N} {x} {y} {u} {v} a b p q r s g h =
     let k = (K + L) / 2 ^ 53 + 1 in
     let l = (M + N) / 2 ^ 53 + 1 in
     record {
-      over = go (plus x) (less x) (plus y) (less y) (plus u) (less u) (plus v) (less v) (plus (x ⊕ y)) (less (x ⊕ y)) (plus (u ⊕ v)) (less (u ⊕ v)) (A * μ) (B * μ) (k * μ) (l * μ) (spread A B k l μ) a.over b.over o.upper w.lower;
-      under = go (plus u) (less u) (plus v) (less v) (plus x) (less x) (plus y) (less y) (plus (u ⊕ v)) (less (u ⊕ v)) (plus (x ⊕ y)) (less (x ⊕ y)) (A * μ) (B * μ) (l * μ) (k * μ) (turned A B k l μ) a.under b.under w.upper o.lower;
+      over = go (plus x) (less x) (plus y) (less y) (plus u) (less u) (plus v) (less v) (plus (x ⊕ y)) (less (x ⊕ y)) (plus (u ⊕ v)) (less (u ⊕ v)) (A * μ) (B * μ) (k * μ) (l * μ) (omega arith) a.over b.over o.upper w.lower;
+      under = go (plus u) (less u) (plus v) (less v) (plus x) (less x) (plus y) (less y) (plus (u ⊕ v)) (less (u ⊕ v)) (plus (x ⊕ y)) (less (x ⊕ y)) (A * μ) (B * μ) (l * μ) (k * μ) (omega arith) a.under b.under w.upper o.lower;
     }
   where
-    spread : (A B k l m : ℕ) → A * m + B * m + (k * m + l * m) ≡ (A + B + (k + l)) * m
-    spread A B k l m = omega arith
-
-    turned : (A B k l m : ℕ) → A * m + B * m + (l * m + k * m) ≡ (A + B + (k + l)) * m
-    turned A B k l m = omega arith
-
     go : (px nx py ny pu nu pv nv ps ns pt nt a b k l : ℕ) {c : ℕ} → a + b + (k + l) ≡ c → px + nu ≤ nx + pu + a → py + nv ≤ ny + pv + b → ps + (nx + ny) ≤ ns + (px + py) + k → nt + (pu + pv) ≤ pt + (nu + nv) + l
         → ps + nt ≤ ns + pt + c
     go px nx py ny pu nu pv nv ps ns pt nt a b k l {c} e f g h i = omega (arith, e, f, g, h, i)
@@ -68,25 +62,15 @@ product_apart_k A B K L M N = ((A * L + B * M) * 2 ^ 53 + (K * L + M * N)) / 2 ^
 -- the exact products: x × y - u × v is (x - u) × y + u × (y - v)
 exact_apart : (px nx py ny pu nu pv nv a b : ℕ) → px + nu ≤ nx + pu + a → pu + nx ≤ nu + px + a → py + nv ≤ ny + pv + b → pv + ny ≤ nv + py + b
     → px * py + nx * ny + (pu * nv + nu * pv) ≤ px * ny + nx * py + (pu * pv + nu * nv) + (a * (py + ny) + b * (pu + nu))
-exact_apart px nx py ny pu nu pv nv a b f g h i = join (mul-le-mul_right py f) (mul-le-mul_right ny g) (mul-le-mul_right pu h) (mul-le-mul_right nu i)
-  where
-    join : (px + nu) * py ≤ (nx + pu + a) * py → (pu + nx) * ny ≤ (nu + px + a) * ny → (py + nv) * pu ≤ (ny + pv + b) * pu → (pv + ny) * nu ≤ (nv + py + b) * nu
-        → px * py + nx * ny + (pu * nv + nu * pv) ≤ px * ny + nx * py + (pu * pv + nu * nv) + (a * (py + ny) + b * (pu + nu))
-    join c d e k = omega (arith, c, d, e, k)
+exact_apart px nx py ny pu nu pv nv a b f g h i = omega (arith, mul-le-mul_right py f, mul-le-mul_right ny g, mul-le-mul_right pu h, mul-le-mul_right nu i)
 
 -- its size, on the scale of the product
 distance_size : (A B L M μ ν π s y u : ℕ) → y ≤ L * ν → u ≤ M * μ → μ * ν ≤ s * π → A * μ * y + B * ν * u ≤ (A * L + B * M) * (s * π)
 distance_size A B L M μ ν π s y u g h e =
-    le_trans (add-le-add (mul-le-mul (le_refl (A * μ)) g) (mul-le-mul (le_refl (B * ν)) h)) (le_trans (le_of_eq (gather A B L M μ ν)) (mul-le-mul (le_refl (A * L + B * M)) e))
-  where
-    gather : (A B L M μ ν : ℕ) → A * μ * (L * ν) + B * ν * (M * μ) ≡ (A * L + B * M) * (μ * ν)
-    gather A B L M μ ν = omega arith
+    le_trans (add-le-add (mul-le-mul (le_refl (A * μ)) g) (mul-le-mul (le_refl (B * ν)) h)) (le_trans (le_of_eq (omega arith)) (mul-le-mul (le_refl (A * L + B * M)) e))
 
 size_product : (K L μ ν π s x y : ℕ) → x ≤ K * μ → y ≤ L * ν → μ * ν ≤ s * π → x * y ≤ K * L * (s * π)
-size_product K L μ ν π s x y g h e = le_trans (mul-le-mul g h) (le_trans (le_of_eq (gather K L μ ν)) (mul-le-mul (le_refl (K * L)) e))
-  where
-    gather : (K L μ ν : ℕ) → K * μ * (L * ν) ≡ K * L * (μ * ν)
-    gather K L μ ν = omega arith
+size_product K L μ ν π s x y g h e = le_trans (mul-le-mul g h) (le_trans (le_of_eq (omega arith)) (mul-le-mul (le_refl (K * L)) e))
 
 -- both roundings and the exact distance, over 2^53 × 1
 together : (pz nz pw nw P N Q O E k l W : ℕ) → (pz * W + N) * 2 ^ 53 ≤ (nz * W + P) * 2 ^ 53 + (k + W * 2 ^ 52) → (nw * W + Q) * 2 ^ 53 ≤ (pw * W + O) * 2 ^ 53 + (l + W * 2 ^ 52) → P + O ≤ N + Q + E
@@ -127,10 +111,7 @@ one_way : {π : ℕ} (pz nz pw nw P N Q O E k l D : ℕ) → 0 < π → Off' pz 
 one_way {π} pz nz pw nw P N Q O E k l D π0 f g h e =
     in_scale (pz + nw) (nz + pw) D S π S_pos π0
     (le_trans (subst (λ (w : ℕ). (pz + nw) * w * 2 ^ 53 ≤ (nz + pw) * w * 2 ^ 53 + (E * 2 ^ 53 + (k + l)) + w * 2 ^ 53) one_is (together pz nz pw nw P N Q O E k l per_one f g h))
-    (within ((nz + pw) * (S * 2 ^ 53) * 2 ^ 53) (E * 2 ^ 53 + (k + l)) (D * (S * π)) (S * 2 ^ 53 * 2 ^ 53) e))
-  where
-    within : (b x y w : ℕ) → x ≤ y → b + x + w ≤ b + y + w
-    within b x y w h = omega arith
+    (omega arith))
 
 -- x × y and u × v
 pub product_apart : {μ ν π A B K L M N : ℕ} {x y u v : Float} → ProductScale μ ν π → Apart μ A x u → Apart ν B y v → Bound μ K x → Bound ν L y → Bound μ M u → Bound ν N v → T (ok K && ok L && ok M && ok N)

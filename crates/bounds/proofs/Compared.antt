@@ -106,13 +106,10 @@ positive_bound {a} {b} {x} p = record { scale = unit; number = p.number; size = 
 
 -- k taken from a, on a scale
 taken : (a k s : ℕ) → k < a → (a - k) * s ≤ a * s - k * s
-taken a k s h = away ((a - k) * s) (k * s) (a * s) (sym (add-mul (a - k) k s) ∙ ap (λ (z : ℕ). z * s) (back a k h))
+taken a k s h = omega (arith, sym (add-mul (a - k) k s) ∙ ap (λ (z : ℕ). z * s) (back a k h))
   where
     back : (a k : ℕ) → k < a → a - k + k ≡ a
     back a k h = omega arith
-
-    away : (x y z : ℕ) → x + y ≡ z → x ≤ z - y
-    away x y z h = omega arith
 
 -- near a value that is known
 pub positive_near : {a b K : ℕ} {x y : Float} → Number x → Apart S K x y → Positive a b y → T (ltb K a) → Positive (a - K) (b + K) x
@@ -151,21 +148,15 @@ positive_mul {a} {b} {c} {d} {x} {y} e p q k l t =
   where
     from_below : (a c e m w s : ℕ) → 0 < s → e * 2 ^ 106 + 2 ^ 105 ≤ a * c * (2 ^ 53 - 1) → a * c * (s * s) ≤ w → w * 2 ^ 53 ≤ m * (s * 2 ^ 53) * 2 ^ 53 + w + s * 2 ^ 53 * 2 ^ 52 → e * s ≤ m
     from_below a c e m w s s0 f g h =
-        let big : a * c * (2 ^ 53 - 1) * s * s ≤ (m * 2 ^ 106 + 2 ^ 105) * s = second (a * c) m w s g (first m w s h) in
+        let big : a * c * (2 ^ 53 - 1) * s * s ≤ (m * 2 ^ 106 + 2 ^ 105) * s = omega (arith, first m w s h) in
         let one : a * c * (2 ^ 53 - 1) * s ≤ m * 2 ^ 106 + 2 ^ 105 = le_of_mul-le-mul_right big s0 in
-        third (e * s) m s s0 (le_trans (le_of_eq (spread e s)) (le_trans (mul-le-mul_right s f) one))
+        (omega (arith, le_trans (le_of_eq (spread e s)) (le_trans (mul-le-mul_right s f) one)))
       where
         first : (m w s : ℕ) → w * 2 ^ 53 ≤ m * (s * 2 ^ 53) * 2 ^ 53 + w + s * 2 ^ 53 * 2 ^ 52 → w * (2 ^ 53 - 1) ≤ m * s * 2 ^ 106 + s * 2 ^ 105
         first m w s h = omega arith
 
-        second : (k m w s : ℕ) → k * (s * s) ≤ w → w * (2 ^ 53 - 1) ≤ m * s * 2 ^ 106 + s * 2 ^ 105 → k * (2 ^ 53 - 1) * s * s ≤ (m * 2 ^ 106 + 2 ^ 105) * s
-        second k m w s g h = omega arith
-
         spread : (e s : ℕ) → e * s * 2 ^ 106 + s * 2 ^ 105 ≡ (e * 2 ^ 106 + 2 ^ 105) * s
         spread e s = omega arith
-
-        third : (x m s : ℕ) → 0 < s → x * 2 ^ 106 + s * 2 ^ 105 ≤ m * 2 ^ 106 + 2 ^ 105 → x ≤ m
-        third x m s s0 h = omega arith
 
 no_size : 2 ^ 33 * S ≤ 0 → ⊥
 unfolding S
@@ -223,10 +214,7 @@ bits_by_field i (inf s) n c l m = absurd n.plain
 bits_by_field i (fin true k e) n c l m = absurd (not-le_of_lt (pow_pos (52 + i)) l)
 bits_by_field i (fin false k e) n c l m =
     let X = k * 2 ^ exponent 1074 e in
-    bits_of_clear binary64 k e n.held ∙ ap (λ (z : ℕ). z * 2 ^ 52 + X / 2 ^ z) (ap (λ (z : ℕ). z - 53) (size_exact (52 + i) X l m) ∙ back i)
-  where
-    back : (i : ℕ) → suc (52 + i) - 53 ≡ i
-    back i = omega arith
+    bits_of_clear binary64 k e n.held ∙ ap (λ (z : ℕ). z * 2 ^ 52 + X / 2 ^ z) (ap (λ (z : ℕ). z - 53) (size_exact (52 + i) X l m) ∙ (omega arith))
 
 -- from 2 to 4
 pub bits_from_two : {x : Float} → Positive (2 ^ 54) (2 ^ 55 - 1) x → to_bits binary64 x ≡ 1023 * 2 ^ 52 + plus x / 2 ^ 1023
@@ -267,11 +255,8 @@ pub bits_apart : {K : ℕ} {x y : Float} → Positive (2 ^ 52) (2 ^ 54 - 1) x �
 unfolding S
 bits_apart {K} {x} {y} p q a =
     go (to_bits binary64 x) (plus x / S) (to_bits binary64 y) (plus y / S) K
-    (le_trans (shr_mono 1021 (over (plus x) (less x) (plus y) (less y) (K * S) p.clear q.clear a.over)) (le_of_eq (add-mul-div_right (plus y) K S_pos))) (around_one p).bits (around_one q).bits
+    (le_trans (shr_mono 1021 (omega arith)) (le_of_eq (add-mul-div_right (plus y) K S_pos))) (around_one p).bits (around_one q).bits
   where
-    over : (p n q m d : ℕ) → n ≡ 0 → m ≡ 0 → p + m ≤ n + q + d → p ≤ q + d
-    over p n q m d e f h = omega arith
-
     go : (b h c i k : ℕ) → h ≤ i + k → ((h < 2 ^ 53) × (b ≡ 1021 * 2 ^ 52 + h)) ⊎ ((2 ^ 53 ≤ h) × (b ≡ 1022 * 2 ^ 52 + h / 2)) → ((i < 2 ^ 53) × (c ≡ 1021 * 2 ^ 52 + i)) ⊎ ((2 ^ 53 ≤ i) × (c ≡ 1022 * 2 ^ 52 + i / 2)) → b ≤ c + k
     go b h c i k d (inl (g, e)) (inl (l, f)) = omega arith
     go b h c i k d (inl (g, e)) (inr (l, f)) = omega arith
@@ -281,13 +266,10 @@ bits_apart {K} {x} {y} p q a =
 -- the pattern without its last digits, 2^52 being v × u: the place among the 64ths, and among the 32nds
 place_among : {x : Float} (u v : ℕ) → 0 < u → v * u ≡ 2 ^ 52 → Positive (2 ^ 54) (2 ^ 55 - 1) x → to_bits binary64 x / u ≡ 1023 * v + plus x / (2 ^ 1023 * u)
 place_among {x} u v h e p =
-    ap (λ (n : ℕ). n / u) (bits_from_two p ∙ ap (λ (n : ℕ). 1023 * n + plus x / 2 ^ 1023) (sym e) ∙ turned v u (plus x / 2 ^ 1023))
+    ap (λ (n : ℕ). n / u) (bits_from_two p ∙ ap (λ (n : ℕ). 1023 * n + plus x / 2 ^ 1023) (sym e) ∙ (omega arith))
     ∙ add-mul-div_right (plus x / 2 ^ 1023) (1023 * v) h
     ∙ ap (λ (n : ℕ). n + 1023 * v) (div-div-eq-div-mul (plus x) (2 ^ 1023) u)
     ∙ add_comm (plus x / (2 ^ 1023 * u)) (1023 * v)
-  where
-    turned : (v u n : ℕ) → 1023 * (v * u) + n ≡ n + 1023 * v * u
-    turned v u n = omega arith
 
 pub place_in_64ths : {x : Float} → Positive (2 ^ 54) (2 ^ 55 - 1) x → to_bits binary64 x / 2 ^ 45 ≡ 1023 * 2 ^ 7 + plus x / (2 ^ 47 * S)
 unfolding S
@@ -299,10 +281,7 @@ place_in_32nds p = place_among (2 ^ 46) (2 ^ 6) (lit< tt) refl p
 
 -- a quotient by u, from both sides
 pub quotient : (X u : ℕ) → 0 < u → (X / u * u ≤ X) × (X < (X / u + 1) * u)
-quotient X u h = (div-mul-le_self X u, (div-lt_iff_lt-mul h).0 (one_more (X / u)))
-  where
-    one_more : (q : ℕ) → q < q + 1
-    one_more q = omega arith
+quotient X u h = (div-mul-le_self X u, (div-lt_iff_lt-mul h).0 (omega arith))
 
 -- a sum of two positive values
 pub positive_sum : {a b c d : ℕ} {x y : Float} → Positive a b x → Positive c d y → T (ok (b + d)) → T (ltb ((b + d) / 2 ^ 53 + 1) (a + c)) → Positive (a + c - ((b + d) / 2 ^ 53 + 1)) (b + d + ((b + d) / 2 ^ 53 + 1)) (x ⊕ y)

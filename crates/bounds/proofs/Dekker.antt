@@ -67,7 +67,7 @@ along_small true x y a b = go (plus x) (less x) (plus y) (less y) a b
 -- ---- sizes of products of the parts, with M = |a|×|b|
 -- two hi: within 65 × 2^-30 of M
 both_hi : (A B x y : ℕ) → x * 2 ^ 25 ≤ A * 2 ^ 25 + A → y * 2 ^ 25 ≤ B * 2 ^ 25 + B → x * y * 2 ^ 30 ≤ A * B * 2 ^ 30 + 65 * (A * B)
-both_hi A B x y g h = go (x * y) (A * B) (le_trans (le_of_eq (left x y)) (le_trans (mul-le-mul g h) (le_of_eq (right A B))))
+both_hi A B x y g h = omega (arith, le_trans (le_of_eq (left x y)) (le_trans (mul-le-mul g h) (le_of_eq (right A B))))
   where
     left : (x y : ℕ) → x * y * 2 ^ 50 ≡ x * 2 ^ 25 * (y * 2 ^ 25)
     left x y = omega arith
@@ -75,11 +75,8 @@ both_hi A B x y g h = go (x * y) (A * B) (le_trans (le_of_eq (left x y)) (le_tra
     right : (A B : ℕ) → (A * 2 ^ 25 + A) * (B * 2 ^ 25 + B) ≡ A * B * 1125899973951489
     right A B = omega arith
 
-    go : (N M : ℕ) → N * 2 ^ 50 ≤ M * 1125899973951489 → N * 2 ^ 30 ≤ M * 2 ^ 30 + 65 * M
-    go N M h = omega arith
-
 both_hi_least : (A B x y : ℕ) → A * 2 ^ 25 ≤ x * 2 ^ 25 + A → B * 2 ^ 25 ≤ y * 2 ^ 25 + B → A * B * 2 ^ 30 ≤ x * y * 2 ^ 30 + 65 * (A * B)
-both_hi_least A B x y g h = go (x * y) (A * B) (le_trans (le_of_eq (left A B)) (le_trans (mul-le-mul (less A x g) (less B y h)) (le_of_eq (right x y))))
+both_hi_least A B x y g h = omega (arith, le_trans (le_of_eq (left A B)) (le_trans (mul-le-mul (less A x g) (less B y h)) (le_of_eq (right x y))))
   where
     less : (A x : ℕ) → A * 2 ^ 25 ≤ x * 2 ^ 25 + A → A * 33554431 ≤ x * 2 ^ 25
     less A x g = omega arith
@@ -90,12 +87,9 @@ both_hi_least A B x y g h = go (x * y) (A * B) (le_trans (le_of_eq (left A B)) (
     right : (x y : ℕ) → x * 2 ^ 25 * (y * 2 ^ 25) ≡ x * y * 2 ^ 50
     right x y = omega arith
 
-    go : (N M : ℕ) → M * 1125899839733761 ≤ N * 2 ^ 50 → M * 2 ^ 30 ≤ N * 2 ^ 30 + 65 * M
-    go N M h = omega arith
-
 -- a hi and a lo, and two lo
 hi_lo : (A B x y : ℕ) → x * 2 ^ 25 ≤ A * 2 ^ 25 + A → y * 2 ^ 25 ≤ B → x * y * 2 ^ 30 ≤ 33 * (A * B)
-hi_lo A B x y g h = go (x * y) (A * B) (le_trans (le_of_eq (left x y)) (le_trans (mul-le-mul g h) (le_of_eq (right A B))))
+hi_lo A B x y g h = omega (arith, le_trans (le_of_eq (left x y)) (le_trans (mul-le-mul g h) (le_of_eq (right A B))))
   where
     left : (x y : ℕ) → x * y * 2 ^ 50 ≡ x * 2 ^ 25 * (y * 2 ^ 25)
     left x y = omega arith
@@ -103,20 +97,14 @@ hi_lo A B x y g h = go (x * y) (A * B) (le_trans (le_of_eq (left x y)) (le_trans
     right : (A B : ℕ) → (A * 2 ^ 25 + A) * B ≡ A * B * 33554433
     right A B = omega arith
 
-    go : (N M : ℕ) → N * 2 ^ 50 ≤ M * 33554433 → N * 2 ^ 30 ≤ 33 * M
-    go N M h = omega arith
-
 lo_hi : (A B x y : ℕ) → x * 2 ^ 25 ≤ A → y * 2 ^ 25 ≤ B * 2 ^ 25 + B → x * y * 2 ^ 30 ≤ 33 * (A * B)
 lo_hi A B x y g h = le_trans (le_of_eq (ap (λ (z : ℕ). z * 2 ^ 30) (mul_comm x y))) (le_trans (hi_lo B A y x h g) (le_of_eq (ap (λ (z : ℕ). 33 * z) (mul_comm B A))))
 
 both_lo : (A B x y : ℕ) → x * 2 ^ 25 ≤ A → y * 2 ^ 25 ≤ B → x * y * 2 ^ 30 ≤ A * B
-both_lo A B x y g h = go (x * y) (A * B) (le_trans (le_of_eq (left x y)) (mul-le-mul g h))
+both_lo A B x y g h = omega (arith, le_trans (le_of_eq (left x y)) (mul-le-mul g h))
   where
     left : (x y : ℕ) → x * y * 2 ^ 50 ≡ x * 2 ^ 25 * (y * 2 ^ 25)
     left x y = omega arith
-
-    go : (N M : ℕ) → N * 2 ^ 50 ≤ M → N * 2 ^ 30 ≤ M
-    go N M h = omega arith
 
 -- ---- a product with its sign
 -- what is along the sign u
@@ -199,10 +187,7 @@ grown : (x d E F : ℕ) → x * 2 ^ 53 ≤ d * 2 ^ 53 + d → d * 2 ^ 30 ≤ E �
 grown x d E F h g e = omega arith
 
 in_limit : (d E L w : ℕ) → 0 < w → d * w * 2 ^ 30 ≤ E → E ≤ L * w * 2 ^ 30 → d ≤ L
-in_limit d E L w W h e = le_of_mul-le-mul_right (cut (d * w) (L * w) (le_trans h e)) W
-  where
-    cut : (a b : ℕ) → a * 2 ^ 30 ≤ b * 2 ^ 30 → a ≤ b
-    cut a b h = omega arith
+in_limit d E L w W h e = le_of_mul-le-mul_right (omega (arith, le_trans h e)) W
 
 times_size : (x d w : ℕ) → x * 2 ^ 53 ≤ d * 2 ^ 53 + d → x * w * 2 ^ 53 ≤ d * w * 2 ^ 53 + d * w
 times_size x d w h =
@@ -229,15 +214,15 @@ sized_sum {M} {k} {j} {p} {n} {c} {g} {l} {i} {q} {m} {f} {h} {x} {y} moderate X
     let U = per_one * 2 ^ 30 in
     let d = mag x + mag y in
     let E = (k + l) * M + (j + i) * U in
-    let both : d * per_one * 2 ^ 30 ≤ E = both_sizes (mag x) (mag y) per_one X.size Y.size in
+    let both : d * per_one * 2 ^ 30 ≤ E = omega arith in
     let most : E ≤ 2 ^ 20 * M + 15 * U = add-le-add (mul-le-mul_right M K) (mul-le-mul_right U J) in
-    let lim : d ≤ limit = in_limit d E limit per_one per_one_pos both (le_trans most (under M per_one (limit * per_one) moderate)) in
-    let r = grown (mag (x ⊕ y) * per_one) (d * per_one) E (M + U) (times_size (mag (x ⊕ y)) d per_one (add_mag d X.number Y.number (le_of_eq refl) lim)) both (le_trans most (over M U)) in
+    let lim : d ≤ limit = in_limit d E limit per_one per_one_pos both (le_trans most (omega arith)) in
+    let r = grown (mag (x ⊕ y) * per_one) (d * per_one) E (M + U) (times_size (mag (x ⊕ y)) d per_one (add_mag d X.number Y.number (le_of_eq refl) lim)) both (le_trans most (omega arith)) in
     let z = add_near d X.number Y.number (sum_small x y d (le_of_eq refl)) lim in
     let sum = x ⊕ y in
     record {
       number = z.number;
-      size = le_trans r (le_of_eq (one_more (k + l) (j + i) M U));
+      size = le_trans r (le_of_eq (omega arith));
       most = le_trans
           (off_sum (plus sum * per_one) (less sum * per_one) (plus x * per_one) (less x * per_one) (plus y * per_one) (less y * per_one) p n q m (d * per_one) (c * M + g * U) (f * M + h * U) E
           (spread (plus sum) (less x) (less y) (less sum) (plus x) (plus y) d per_one z.most) X.most Y.most both)
@@ -247,18 +232,6 @@ sized_sum {M} {k} {j} {p} {n} {c} {g} {l} {i} {q} {m} {f} {h} {x} {y} moderate X
           (spread (less sum) (plus x) (plus y) (plus sum) (less x) (less y) d per_one z.least) X.least Y.least both)
           (add-le-add (le_refl ((plus sum * per_one + (n + m)) * 2 ^ 83)) (le_of_eq (gathered c g f h (k + l) (j + i) M U)));
     }
-  where
-    both_sizes : (p q w : ℕ) → p * w * 2 ^ 30 ≤ k * M + j * (w * 2 ^ 30) → q * w * 2 ^ 30 ≤ l * M + i * (w * 2 ^ 30) → (p + q) * w * 2 ^ 30 ≤ (k + l) * M + (j + i) * (w * 2 ^ 30)
-    both_sizes p q w g h = omega arith
-
-    under : (M w L : ℕ) → (M + w) * 16 ≤ L → 2 ^ 20 * M + 15 * (w * 2 ^ 30) ≤ L * 2 ^ 30
-    under M w L h = omega arith
-
-    over : (M U : ℕ) → 2 ^ 20 * M + 15 * U ≤ (M + U) * 2 ^ 53
-    over M U = omega arith
-
-    one_more : (k j M U : ℕ) → k * M + j * U + (M + U) ≡ (k + 1) * M + (j + 1) * U
-    one_more k j M U = omega arith
 
 -- the product of two parts, where that of their sizes is at most c × M / 2^30
 -- a product, off by its rounding
@@ -329,12 +302,12 @@ sized_gap {M} {x} {y} u moderate a b p q g h {i} {j} {k} {l} K X bound Y =
     let U = per_one * 2 ^ 30 in
     let E = 66 * M + 1 * U in
     let size = gap_times (mag x) (mag y) per_one E g h in
-    let lim : d ≤ limit = in_limit d E limit per_one per_one_pos size (under M per_one (limit * per_one) moderate) in
+    let lim : d ≤ limit = in_limit d E limit per_one per_one_pos size (omega arith) in
     let small = along_small u x y a b in
     let t = sub_near d p q small lim in
     record {
       number = t.number;
-      size = le_trans (grown (mag (x ⊖ y) * per_one) (d * per_one) E (M + U) (times_size (mag (x ⊖ y)) d per_one (close_mag d t small)) size (over M U)) (le_of_eq (one_more M U));
+      size = le_trans (grown (mag (x ⊖ y) * per_one) (d * per_one) E (M + U) (times_size (mag (x ⊖ y)) d per_one (close_mag d t small)) size (omega arith)) (le_of_eq (omega arith));
       most = le_trans
           (off_sum (plus (x ⊖ y) * per_one) (less (x ⊖ y) * per_one) (plus x * per_one) (less x * per_one) (less y * per_one) (plus y * per_one) i j l k (d * per_one) ((2 ^ 30 + 65) * M + 2 ^ 52 * U) (2 ^ 30 * M + 2 ^ 52 * U) E
           (spread (plus (x ⊖ y)) (less x) (plus y) (less (x ⊖ y)) (plus x) (less y) d per_one t.most) (off_at (plus x * per_one) (less x * per_one) i j K per_one ((2 ^ 30 + 65) * M) X.most bound)
@@ -346,15 +319,6 @@ sized_gap {M} {x} {y} u moderate a b p q g h {i} {j} {k} {l} K X bound Y =
           (off_at (plus y * per_one) (less y * per_one) k l M per_one (2 ^ 30 * M) Y.most (le_of_eq (mul_comm M (2 ^ 30)))) size)
           (add-le-add (le_refl ((plus (x ⊖ y) * per_one + (j + k)) * 2 ^ 83)) (le_of_eq (gathered (2 ^ 30 + 65) (2 ^ 52) (2 ^ 30) (2 ^ 52) 66 1 M U)));
     }
-  where
-    under : (M w L : ℕ) → (M + w) * 16 ≤ L → 66 * M + 1 * (w * 2 ^ 30) ≤ L * 2 ^ 30
-    under M w L h = omega arith
-
-    over : (M U : ℕ) → 66 * M + 1 * U ≤ (M + U) * 2 ^ 53
-    over M U = omega arith
-
-    one_more : (M U : ℕ) → 66 * M + 1 * U + (M + U) ≡ 67 * M + 2 * U
-    one_more M U = omega arith
 
 -- ---- the four products of the parts are the product of the sums of the parts, and these are a and b but for 2^-78
 -- p - n, times u - v, is q - m, times u - v, but for e × (u + v)
@@ -377,13 +341,7 @@ regroup_right p n q m u v k e = omega arith
 scaled_off : (p n q m e u v k : ℕ) → (p + m) * k ≤ (n + q) * k + e → (n + q) * k ≤ (p + m) * k + e → (p * u + n * v + (q * v + m * u)) * k ≤ (p * v + n * u + (q * u + m * v)) * k + e * (u + v)
 scaled_off p n q m e u v k g h =
     le_trans (le_of_eq (regroup p n q m u v k))
-    (le_trans (times_off (p * k) (n * k) (q * k) (m * k) e u v (apart_one p m n q k e g) (apart_two n q p m k e h)) (le_of_eq (regroup_right p n q m u v k (e * (u + v)))))
-  where
-    apart_one : (p m n q k e : ℕ) → (p + m) * k ≤ (n + q) * k + e → p * k + m * k ≤ n * k + q * k + e
-    apart_one p m n q k e h = omega arith
-
-    apart_two : (n q p m k e : ℕ) → (n + q) * k ≤ (p + m) * k + e → q * k + n * k ≤ m * k + p * k + e
-    apart_two n q p m k e h = omega arith
+    (le_trans (times_off (p * k) (n * k) (q * k) (m * k) e u v (omega arith) (omega arith)) (le_of_eq (regroup_right p n q m u v k (e * (u + v)))))
 
 -- with x and y for the sums of the parts of a and of b, each in its two parts
 sums_off : (xp xn yp yn pa na pb nb : ℕ) → (xp + na) * 2 ^ 78 ≤ (xn + pa) * 2 ^ 78 + (pa + na) → (xn + pa) * 2 ^ 78 ≤ (xp + na) * 2 ^ 78 + (pa + na) → (yp + nb) * 2 ^ 78 ≤ (yn + pb) * 2 ^ 78 + (pb + nb)
@@ -392,17 +350,8 @@ sums_off : (xp xn yp yn pa na pb nb : ℕ) → (xp + na) * 2 ^ 78 ≤ (xn + pa) 
 sums_off xp xn yp yn pa na pb nb a b c d s =
     off_twice (xp * yp + xn * yn) (xp * yn + xn * yp) (pa * yp + na * yn) (pa * yn + na * yp) (pa * pb + na * nb) (pa * nb + na * pb) ((pa + na) * (yp + yn)) ((pb + nb) * (pa + na)) ((pa + na) * (pb + nb))
     (scaled_off xp xn pa na (pa + na) yp yn (2 ^ 78) a b)
-    (le_trans (le_of_eq (ap (λ (k : ℕ). k * 2 ^ 78) (left yp yn pb nb pa na))) (le_trans (scaled_off yp yn pb nb (pb + nb) pa na (2 ^ 78) c d) (le_of_eq (ap (λ (k : ℕ). k * 2 ^ 78 + (pb + nb) * (pa + na)) (right yp yn pb nb pa na)))))
-    (le_trans (mul-le-mul (le_refl (pa + na)) s) (le_of_eq (twice (pa + na) (pb + nb)))) (mul_comm (pb + nb) (pa + na))
-  where
-    left : (yp yn pb nb pa na : ℕ) → pa * yp + na * yn + (pa * nb + na * pb) ≡ yp * pa + yn * na + (pb * na + nb * pa)
-    left yp yn pb nb pa na = omega arith
-
-    right : (yp yn pb nb pa na : ℕ) → yp * na + yn * pa + (pb * pa + nb * na) ≡ pa * yn + na * yp + (pa * pb + na * nb)
-    right yp yn pb nb pa na = omega arith
-
-    twice : (a b : ℕ) → a * (2 * b) ≡ 2 * (a * b)
-    twice a b = omega arith
+    (le_trans (le_of_eq (ap (λ (k : ℕ). k * 2 ^ 78) (omega arith))) (le_trans (scaled_off yp yn pb nb (pb + nb) pa na (2 ^ 78) c d) (le_of_eq (ap (λ (k : ℕ). k * 2 ^ 78 + (pb + nb) * (pa + na)) (omega arith)))))
+    (le_trans (mul-le-mul (le_refl (pa + na)) s) (le_of_eq (omega arith))) (mul_comm (pb + nb) (pa + na))
 
 -- the parts of b together
 both_parts : (h l B : ℕ) → h * 2 ^ 25 ≤ B * 2 ^ 25 + B → l * 2 ^ 25 ≤ B → h + l ≤ 2 * B
@@ -432,14 +381,10 @@ four_turned' ph nh pl nl qh mh ql ml pa na pb nb = omega arith
 -- off p - n, which is small: the size
 final_size : (P N p n M w : ℕ) → (P + n) * 2 ^ 83 ≤ (N + p) * 2 ^ 83 + (2147484222 * M + (5 * 2 ^ 52 + 16) * (w * 2 ^ 30)) → p * 2 ^ 78 ≤ n * 2 ^ 78 + 3 * M → N ≡ 0
     → P * 2 ^ 83 ≤ 2147484318 * M + (5 * 2 ^ 52 + 16) * (w * 2 ^ 30)
-final_size P N p n M w h g z = over P N p n M w h (wider p n M g) z
+final_size P N p n M w h g z = omega (arith, wider p n M g)
   where
     wider : (p n M : ℕ) → p * 2 ^ 78 ≤ n * 2 ^ 78 + 3 * M → p * 2 ^ 83 ≤ n * 2 ^ 83 + 96 * M
     wider p n M h = omega arith
-
-    over : (P N p n M w : ℕ) → (P + n) * 2 ^ 83 ≤ (N + p) * 2 ^ 83 + (2147484222 * M + (5 * 2 ^ 52 + 16) * (w * 2 ^ 30)) → p * 2 ^ 83 ≤ n * 2 ^ 83 + 96 * M → N ≡ 0
-        → P * 2 ^ 83 ≤ 2147484318 * M + (5 * 2 ^ 52 + 16) * (w * 2 ^ 30)
-    over P N p n M w h g z = omega arith
 
 -- on whichever side
 of_sides : (q m w p n M : ℕ) → (q ≡ 0) ⊎ (m ≡ 0) → (q * w + n) * 2 ^ 83 ≤ (m * w + p) * 2 ^ 83 + (2147484222 * M + (5 * 2 ^ 52 + 16) * (w * 2 ^ 30))

@@ -7,7 +7,7 @@ use Prim.Native.Nat.{ℕ, ◌+◌, ◌*◌, ◌/◌, ◌^◌, ◌≤◌, ◌<◌
 use native.Mathlib.Nat.{le_trans, le_of_eq, mul-le-mul_right, mul_right_comm, add_comm, add-mul, add-le-add, le_refl}
 use native.Mathlib.Omega.{arith}
 use lib.Dec.{T, leb, leb→le}
-use lib.Ieee.{Float, binary64, neg, sub}
+use lib.Ieee.{Float, binary64, sub}
 use Rattle.floats.specs.Operations.{◌⊕◌, ◌⊖◌}
 use Rattle.floats.proofs.Laws.Sums.{add_turned}
 use Rattle.double_double.specs.DoubleDouble.{from_full_exact_add, full_add_f64, dd_fmla}
@@ -28,15 +28,9 @@ apart_at {μ} {K} {x} {y} M a t = record { over = go (plus x + less y) (less x +
 
 pub apart_through : {μ K L : ℕ} {x y z : Float} → Apart μ K x y → Apart μ L y z → Apart μ (K + L) x z
 apart_through {μ} {K} {L} {x} {y} {z} a b = record {
-  over = go (plus x) (less x) (plus y) (less y) (plus z) (less z) (K * μ) (L * μ) ((K + L) * μ) (add-mul K L μ) a.over b.over;
-  under = go' (plus x) (less x) (plus y) (less y) (plus z) (less z) (K * μ) (L * μ) ((K + L) * μ) (add-mul K L μ) a.under b.under;
+  over = omega (arith, add-mul K L μ);
+  under = omega (arith, add-mul K L μ);
 }
-  where
-    go : (p n q m r l i j k : ℕ) → k ≡ i + j → p + m ≤ n + q + i → q + l ≤ m + r + j → p + l ≤ n + r + k
-    go p n q m r l i j k e g h = omega arith
-
-    go' : (p n q m r l i j k : ℕ) → k ≡ i + j → q + n ≤ m + p + i → r + m ≤ l + q + j → r + n ≤ l + p + k
-    go' p n q m r l i j k e g h = omega arith
 
 -- ---- a sum
 abbrev pub apart_k : ℕ → ℕ → ℕ
@@ -67,15 +61,9 @@ sub_apart {μ} {K} {L} {C} {x} {y} p q r t =
     let o = sum_off p (neg_bound q) t in
     let e = add-mul C ((K + L) / 2 ^ 53 + 1) μ in
     record {
-      over = above (plus x) (less x) (plus y) (less y) (plus (neg y)) (less (neg y)) (plus z) (less z) (C * μ) E _ (neg_plus y) (neg_less y) e r.size o.lower;
-      under = below (plus x) (less x) (plus y) (less y) (plus (neg y)) (less (neg y)) (plus z) (less z) (C * μ) E _ (neg_plus y) (neg_less y) e r.size o.upper;
+      over = omega (arith, neg_plus y, neg_less y);
+      under = omega (arith, neg_plus y, neg_less y);
     }
-  where
-    above : (p n q m q' m' r l C E k : ℕ) → q' ≡ m → m' ≡ q → k ≡ C + E → r + l ≤ C → l + (p + q') ≤ r + (n + m') + E → p + m ≤ n + q + k
-    above p n q m q' m' r l C E k f g e s h = omega arith
-
-    below : (p n q m q' m' r l C E k : ℕ) → q' ≡ m → m' ≡ q → k ≡ C + E → r + l ≤ C → r + (n + m') ≤ l + (p + q') + E → q + n ≤ m + p + k
-    below p n q m q' m' r l C E k f g e s h = omega arith
 
 -- so it is off x by y, and a rounding
 pub add_apart : {μ K L : ℕ} {x y : Float} → Bound μ K x → Bound μ L y → T (ok (K + L)) → Apart μ (apart_k K L) (x ⊕ y) x
@@ -84,15 +72,9 @@ add_apart {μ} {K} {L} {x} {y} p q t =
     let z = x ⊕ y in
     let o = sum_off p q t in
     record {
-      over = above (plus x) (less x) (plus y) (less y) (plus z) (less z) (L * μ) E (apart_k K L * μ) (add-mul L ((K + L) / 2 ^ 53 + 1) μ) q.size o.upper;
-      under = below (plus x) (less x) (plus y) (less y) (plus z) (less z) (L * μ) E (apart_k K L * μ) (add-mul L ((K + L) / 2 ^ 53 + 1) μ) q.size o.lower;
+      over = omega (arith, add-mul L ((K + L) / 2 ^ 53 + 1) μ);
+      under = omega (arith, add-mul L ((K + L) / 2 ^ 53 + 1) μ);
     }
-  where
-    above : (p n q m r l Y E k : ℕ) → k ≡ Y + E → q + m ≤ Y → r + (n + m) ≤ l + (p + q) + E → r + n ≤ l + p + k
-    above p n q m r l Y E k e s h = omega arith
-
-    below : (p n q m r l Y E k : ℕ) → k ≡ Y + E → q + m ≤ Y → l + (p + q) ≤ r + (n + m) + E → p + l ≤ n + r + k
-    below p n q m r l Y E k e s h = omega arith
 
 -- and off y by x
 pub add_apart_right : {μ K L : ℕ} {x y : Float} → Bound μ K x → Bound μ L y → T (ok (K + L)) → Apart μ (K + ((K + L) / 2 ^ 53 + 1)) (x ⊕ y) y

@@ -85,14 +85,11 @@ off : {u : Float} (r : Float) → Positive (2 ^ 52) (3 * 2 ^ 52) u → Same r u 
 off {u} r p same =
     let a = around p in
     let w = range a.parts a.least a.most in
-    let c = count_as a.parts (2 ^ 53) (count_sum grid53 (count_same same a.count) minus_one_count w.0 w.1) (turned a.parts) in
+    let c = count_as a.parts (2 ^ 53) (count_sum grid53 (count_same same a.count) minus_one_count w.0 w.1) (omega arith) in
     record { number = c.number; is = c.is ∙ ap (λ (k : ℕ). less (r ⊕ minus_one) + k) (sym a.is); parts = a.parts - 2 ^ 53 + (2 ^ 53 - a.parts); grid = count_size grid53 c }
   where
     range : (U : ℕ) → 2 ^ 52 ≤ U → U ≤ 3 * 2 ^ 52 → (U + 0 < 0 + 2 ^ 53 + 2 ^ 53) × (0 + 2 ^ 53 < U + 0 + 2 ^ 53)
     range U l m = (omega arith, omega arith)
-
-    turned : (U : ℕ) → U + 0 + 2 ^ 53 ≡ 0 + 2 ^ 53 + U
-    turned U = omega arith
 
 itself : {u : Float} → Number u → Same u u
 itself n = record { number = n; plus_same = refl; less_same = refl }
@@ -155,12 +152,9 @@ no_size p n h = (omega arith, omega arith)
 nought_times : (x : Float) → Number x → Same (nought ⊗ x) nought
 nought_times x n =
     let no_product : mag nought * mag x ≡ 0 = zero-mul (mag x) in
-    let m = mul_near nought_number n (subst (λ (k : ℕ). k ≤ limit * per_one) (sym no_product) (from_zero (limit * per_one))) in
+    let m = mul_near nought_number n (subst (λ (k : ℕ). k ≤ limit * per_one) (sym no_product) (omega arith)) in
     let e = no_size (plus (nought ⊗ x)) (less (nought ⊗ x)) (nothing (mag (nought ⊗ x)) (mag nought * mag x) per_one per_one_pos no_product m.most) in
     record { number = m.number; plus_same = e.0; less_same = e.1 }
-  where
-    from_zero : (a : ℕ) → 0 ≤ a
-    from_zero a = omega arith
 
 nought_sum : {x y : Float} → Same x nought → Same y nought → Same (x ⊕ y) nought
 nought_sum {x} {y} a b =
@@ -259,11 +253,8 @@ pub record ExactSum (x y : Float) : Type 0 where
 
 pub exact_sum : {x y : Float} (j P N : ℕ) → j ≤ 1900 → Number x → Number y → plus x + plus y ≡ P * 2 ^ j → less x + less y ≡ N * 2 ^ j → P < N + 2 ^ 53 → N < P + 2 ^ 53 → ExactSum x y
 exact_sum {x} {y} j P N l p q e d h g =
-    let c = rounded_count (record { digits = j; is = refl; low = l }) (sum_in_units x y p q) (both (plus x + plus y) (less x + less y) (P * 2 ^ j) (N * 2 ^ j) e d) h g in
+    let c = rounded_count (record { digits = j; is = refl; low = l }) (sum_in_units x y p q) (omega arith) h g in
     record { number = c.number; is = add_assoc (plus (x ⊕ y)) (less x) (less y) ∙ ap (λ (k : ℕ). plus (x ⊕ y) + k) d ∙ c.is ∙ ap (λ (k : ℕ). less (x ⊕ y) + k) (sym e) ∙ sym (add_assoc (less (x ⊕ y)) (plus x) (plus y)) }
-  where
-    both : (a b c d : ℕ) → a ≡ c → b ≡ d → a + d ≡ b + c
-    both a b c d e f = omega arith
 
 pub fast_exact : {a b : Float} → Number a → Number b → ExactSum a b → Same (from_exact_add a b).lo nought
 unfolding from_exact_add
@@ -291,10 +282,7 @@ same_off {u} {h} {z} o s = record {
 
 -- nothing plus h
 nought_plus : {l h : Float} → Same l nought → Number h → Same (l ⊕ h) h
-nought_plus {l} {h} s n = add_exact s.number n n (ap (λ (i : ℕ). i + plus h + less h) s.plus_same ∙ go (plus h) (less h) ∙ ap (λ (i : ℕ). i + less h + plus h) (sym s.less_same))
-  where
-    go : (p n : ℕ) → 0 + p + n ≡ 0 + n + p
-    go p n = omega arith
+nought_plus {l} {h} s n = add_exact s.number n n (ap (λ (i : ℕ). i + plus h + less h) s.plus_same ∙ (omega arith) ∙ ap (λ (i : ℕ). i + less h + plus h) (sym s.less_same))
 
 -- what is at most 3/2 splits
 in_limit : (m : ℕ) → m ≤ 3 * 2 ^ 52 * S → (m + 1) * 2 ^ 28 ≤ limit

@@ -51,10 +51,7 @@ count_as {G} {p} {n} {x} q m c e = record { number = c.number; is = go (plus x) 
 
 -- the same value, on a finer grid
 pub finer : {G p n : ℕ} {x : Float} (k H : ℕ) → G ≡ k * H → Count G p n x → Count H (p * k) (n * k) x
-finer {G} {p} {n} {x} k H e c = record { number = c.number; is = go (plus x) (less x) p n k H (subst (λ (g : ℕ). plus x + n * g ≡ less x + p * g) e c.is) }
-  where
-    go : (a b p n k H : ℕ) → a + n * (k * H) ≡ b + p * (k * H) → a + n * k * H ≡ b + p * k * H
-    go a b p n k H h = omega arith
+finer {G} {p} {n} {x} k H e c = record { number = c.number; is = omega (arith, subst (λ (g : ℕ). plus x + n * g ≡ less x + p * g) e c.is) }
 
 -- another float of the same value
 pub count_same : {G p n : ℕ} {x z : Float} → Same z x → Count G p n x → Count G p n z
@@ -67,25 +64,19 @@ count_neg {G} {p} {n} {x} c = record { number = neg_number c.number; is = ap (λ
 deep : {G : ℕ} (g : Grid G) (m k : ℕ) → m < 2 ^ 53 → 2 ^ 52 * G ≤ m * 2 ^ k → g.digits ≤ k
 deep {G} g m k h l = go (leb g.digits k) (leb→le g.digits k) (nleb→lt g.digits k)
   where
-    up_to : (k d : ℕ) → k < d → 53 + k ≤ 52 + d
-    up_to k d h = omega arith
-
     power : 2 ^ 52 * G ≡ 2 ^ (52 + g.digits)
     power = ap (λ (z : ℕ). 2 ^ 52 * z) g.is ∙ sym (pow-add 2 52 g.digits)
 
     go : (b : Bool) → (T b → g.digits ≤ k) → (T (not b) → k < g.digits) → g.digits ≤ k
     go true y n = y tt
-    go false y n = absurd (not-le_of_lt (lt_of_lt_of_le (shl_lt 53 k h) (pow_mono (up_to k g.digits (n tt)))) (subst (λ (z : ℕ). z ≤ m * 2 ^ k) power l))
+    go false y n = absurd (not-le_of_lt (lt_of_lt_of_le (shl_lt 53 k h) (pow_mono (omega (arith, n tt)))) (subst (λ (z : ℕ). z ≤ m * 2 ^ k) power l))
 
 multiple : {G : ℕ} (g : Grid G) (m k : ℕ) → g.digits ≤ k → m * 2 ^ k ≡ m * 2 ^ (k - g.digits) * G
 multiple {G} g m k h =
-    ap (λ (i : ℕ). m * 2 ^ i) (back k g.digits h)
+    ap (λ (i : ℕ). m * 2 ^ i) (omega arith)
     ∙ ap (λ (i : ℕ). m * i) (pow-add 2 (k - g.digits) g.digits)
     ∙ sym (mul_assoc m (2 ^ (k - g.digits)) (2 ^ g.digits))
     ∙ ap (λ (i : ℕ). m * 2 ^ (k - g.digits) * i) (sym g.is)
-  where
-    back : (k d : ℕ) → d ≤ k → k ≡ k - d + d
-    back k d h = omega arith
 
 -- x is some number of G units, with its sign
 pub record OnGrid (G : ℕ) (x : Float) : Type 0 where
@@ -96,23 +87,17 @@ pub record OnGrid (G : ℕ) (x : Float) : Type 0 where
 pub on_grid : {G : ℕ} {x : Float} → Grid G → Number x → 2 ^ 52 * G ≤ mag x → OnGrid G x
 on_grid {G} {x} g n l = go x n l
   where
-    set : (a b G : ℕ) → a ≡ b * G → 0 + b * G ≡ a + 0 * G
-    set a b G e = omega arith
-
-    clear : (a b G : ℕ) → a ≡ b * G → a + 0 * G ≡ 0 + b * G
-    clear a b G e = omega arith
-
     go : (x : Float) → Number x → 2 ^ 52 * G ≤ mag x → OnGrid G x
     go nan n l = absurd n.plain
     go (inf s) n l = absurd n.plain
     go (fin true m e) n l =
         let k = exponent 1074 e in
         let is = multiple g m k (deep g m k (fits_digits binary64 true m e n.held) (subst (λ (z : ℕ). 2 ^ 52 * G ≤ z) (zero-add (m * 2 ^ k)) l)) in
-        record { over = 0; below = m * 2 ^ (k - g.digits); count = record { number = n; is = set (m * 2 ^ k) (m * 2 ^ (k - g.digits)) G is } }
+        record { over = 0; below = m * 2 ^ (k - g.digits); count = record { number = n; is = omega arith } }
     go (fin false m e) n l =
         let k = exponent 1074 e in
         let is = multiple g m k (deep g m k (fits_digits binary64 false m e n.held) (subst (λ (z : ℕ). 2 ^ 52 * G ≤ z) (add-zero (m * 2 ^ k)) l)) in
-        record { over = m * 2 ^ (k - g.digits); below = 0; count = record { number = n; is = clear (m * 2 ^ k) (m * 2 ^ (k - g.digits)) G is } }
+        record { over = m * 2 ^ (k - g.digits); below = 0; count = record { number = n; is = omega arith } }
 
 -- ---- a sum
 -- fewer than 2^53 of G units round to themselves
@@ -129,14 +114,11 @@ round_few {G} g s k q h e =
 -- k is p - n of G
 apart_of : (k p n G : ℕ) → 0 < G → k + n * G ≡ p * G → (p - n + n ≡ p) × (k ≡ (p - n) * G)
 apart_of k p n G g e =
-    let whole : p - n + n ≡ p = back p n (le_of_mul-le-mul_right (over k (n * G) (p * G) e) g) in
+    let whole : p - n + n ≡ p = omega (arith, le_of_mul-le-mul_right (over k (n * G) (p * G) e) g) in
     (whole, taken k (p - n) n p G e whole)
   where
     over : (a b d : ℕ) → a + b ≡ d → b ≤ d
     over a b d h = omega arith
-
-    back : (q r : ℕ) → r ≤ q → q - r + r ≡ q
-    back q r h = omega arith
 
     taken : (k d n p G : ℕ) → k + n * G ≡ p * G → d + n ≡ p → k ≡ d * G
     taken k d n p G e f =
@@ -151,19 +133,13 @@ fewer d p n e h = omega arith
 pub count_size : {G p n : ℕ} {x : Float} → Grid G → Count G p n x → mag x ≡ (p - n + (n - p)) * G
 count_size {G} {p} {n} {x} g c = go (plus x) (less x) (one_side x) c.is
   where
-    both : (p n : ℕ) → p - n + n ≡ p → p - n ≡ p - n + (n - p)
-    both p n h = omega arith
-
-    both_turned : (p n : ℕ) → n - p + p ≡ n → n - p ≡ p - n + (n - p)
-    both_turned p n h = omega arith
-
     go : (a b : ℕ) → (a ≡ 0) ⊎ (b ≡ 0) → a + n * G ≡ b + p * G → a + b ≡ (p - n + (n - p)) * G
     go a b (inr e) h =
         let f = apart_of a p n G (grid_pos g) (h ∙ ap (λ (k : ℕ). k + p * G) e ∙ zero-add (p * G)) in
-        ap (λ (k : ℕ). a + k) e ∙ add-zero a ∙ f.1 ∙ ap (λ (k : ℕ). k * G) (both p n f.0)
+        ap (λ (k : ℕ). a + k) e ∙ add-zero a ∙ f.1 ∙ ap (λ (k : ℕ). k * G) (omega arith)
     go a b (inl e) h =
         let f = apart_of b n p G (grid_pos g) (sym h ∙ ap (λ (k : ℕ). k + n * G) e ∙ zero-add (n * G)) in
-        ap (λ (k : ℕ). k + b) e ∙ zero-add b ∙ f.1 ∙ ap (λ (k : ℕ). k * G) (both_turned p n f.0)
+        ap (λ (k : ℕ). k + b) e ∙ zero-add b ∙ f.1 ∙ ap (λ (k : ℕ). k * G) (omega arith)
 
 -- what is rounded from p - n of G is that, exactly
 pub rounded_count : {G P N p n : ℕ} {z : Float} → Grid G → Rounded binary64 P N per_one z → P + n * G ≡ N + p * G → p < n + 2 ^ 53 → n < p + 2 ^ 53 → Count G p n z
@@ -213,13 +189,7 @@ count_mag {G} {a} {x} c = ap₂ ◌+◌ (clear_count c).0 (clear_count c).1 ∙ 
 
 -- d is the size of the other, on the grid B: the sizes multiplied, on the grid C
 product_size : (R d A B C w : ℕ) → A * B ≡ C * w → R * A * (d * B) * w ≡ R * d * C * (w * w)
-product_size R d A B C w e = first R d A B w ∙ ap (λ (z : ℕ). R * d * z * w) e ∙ last R d C w
-  where
-    first : (R d A B w : ℕ) → R * A * (d * B) * w ≡ R * d * (A * B) * w
-    first R d A B w = omega arith
-
-    last : (R d C w : ℕ) → R * d * (C * w) * w ≡ R * d * C * (w * w)
-    last R d C w = omega arith
+product_size R d A B C w e = omega arith ∙ ap (λ (z : ℕ). R * d * z * w) e ∙ (omega arith)
 
 -- k units with the sign s, or none
 signed_units : {s v : Bool} {k : ℕ} {z : Float} → Units s k z → (s ≡ v) ⊎ (k ≡ 0) → Units v k z
@@ -335,13 +305,10 @@ finite_nought s m e t n d f g h z =
     (ap₂ ◌+◌ (above_times s (m * up e) (down d)) (above_times t (n * up d) (down e)) ∙ same ∙ sym (ap₂ ◌+◌ (under_times s (m * up e) (down d)) (under_times t (n * up d) (down e))))
     ∙ round_same binary64 false 0 c 0 (2 ^ 1074) (mul-pos (down_pos e) (down_pos d)) (pow_pos 1074) (zero-mul (2 ^ 1074) ∙ sym (zero-mul c))
   where
-    none : (X Y : ℕ) → 0 + 0 ≡ X + Y → 0 + Y ≡ 0
-    none X Y h = omega arith
-
     signs : (s t : Bool) (X Y : ℕ) → above s X + above t Y ≡ under s X + under t Y → (above t Y + under t Y ≡ 0 → t ≡ false) → (s ≡ false) ⊎ (t ≡ false)
     signs false t X Y z h = inl refl
     signs true false X Y z h = inr refl
-    signs true true X Y z h = inr (h (none X Y z))
+    signs true true X Y z h = inr (h (omega arith))
 
 pub sum_nought : (x y : Float) → Number x → Number y → NotMinusNought y → plus x + plus y ≡ less x + less y → x ⊕ y ≡ round binary64 false 0 per_one
 sum_nought = of_numbers (λ (x y : Float). NotMinusNought y → plus x + plus y ≡ less x + less y → x ⊕ y ≡ round binary64 false 0 per_one) finite_nought
@@ -351,12 +318,6 @@ pub rounded_alike : {p n q m : ℕ} {z w : Float} → Rounded binary64 p n per_o
     → p + m ≡ n + q → z ≡ w
 rounded_alike {p} {n} {q} {m} {z} {w} R Q a b e = go R.sign R.exact R.is Q.sign Q.exact Q.is
   where
-    level : (k l p n q m : ℕ) → k + n ≡ p → l + m ≡ q → p + m ≡ n + q → k ≡ l
-    level k l p n q m e f h = omega arith
-
-    under_level : (k l p n q m : ℕ) → k + p ≡ n → l + q ≡ m → p + m ≡ n + q → k ≡ l
-    under_level k l p n q m e f h = omega arith
-
     none : (k l p n q m : ℕ) → k + n ≡ p → l + q ≡ m → p + m ≡ n + q → (p ≡ n) × (q ≡ m)
     none k l p n q m e f h = (omega arith, omega arith)
 
@@ -364,8 +325,8 @@ rounded_alike {p} {n} {q} {m} {z} {w} R Q a b e = go R.sign R.exact R.is Q.sign 
     none_under k l p n q m e f h = (omega arith, omega arith)
 
     go : (s : Bool) → Signed s R.digits p n → z ≡ round binary64 s R.digits per_one → (t : Bool) → Signed t Q.digits q m → w ≡ round binary64 t Q.digits per_one → z ≡ w
-    go false x i false y j = i ∙ ap (λ (k : ℕ). round binary64 false k per_one) (level R.digits Q.digits p n q m x y e) ∙ sym j
-    go true x i true y j = i ∙ ap (λ (k : ℕ). round binary64 true k per_one) (under_level R.digits Q.digits p n q m x y e) ∙ sym j
+    go false x i false y j = i ∙ ap (λ (k : ℕ). round binary64 false k per_one) (omega arith) ∙ sym j
+    go true x i true y j = i ∙ ap (λ (k : ℕ). round binary64 true k per_one) (omega arith) ∙ sym j
     go false x i true y j =
         let o = none R.digits Q.digits p n q m x y e in
         a o.0 ∙ sym (b o.1)
@@ -380,11 +341,8 @@ sums_same {x} {y} {u} {v} a b c d h k e = rounded_alike (sum_in_units x y a b) (
 -- an exact sum whose last term is not -0 is not -0
 pub not_minus_nought : {G p n q m : ℕ} {x y : Float} → Grid G → Count G p n x → Count G q m y → p + q < n + m + 2 ^ 53 → n + m < p + q + 2 ^ 53 → NotMinusNought y → NotMinusNought (x ⊕ y)
 not_minus_nought {G} {p} {n} {q} {m} {x} {y} g a b h l k z =
-    subst (HasSign false) (sym (sum_nought x y a.number b.number k (level (plus x) (less x) (plus y) (less y) (plus (x ⊕ y)) (less (x ⊕ y)) p n q m G a.is b.is (count_sum g a b h l).is z)))
+    subst (HasSign false) (sym (sum_nought x y a.number b.number k (omega (arith, (count_sum g a b h l).is))))
     (round_has_sign binary64 false 0 per_one)
-  where
-    level : (px nx py ny pz nz p n q m G : ℕ) → px + n * G ≡ nx + p * G → py + m * G ≡ ny + q * G → pz + (n + m) * G ≡ nz + (p + q) * G → pz + nz ≡ 0 → px + py ≡ nx + ny
-    level px nx py ny pz nz p n q m G e f g h = omega arith
 
 -- what is on a grid and not below 0
 pub record Clear (G : ℕ) (x : Float) : Type 0 where
@@ -396,7 +354,4 @@ pub on_grid_clear : {G : ℕ} {x : Float} → Grid G → Number x → less x ≡
 on_grid_clear {G} {x} g n c l =
     let o = on_grid g n (le_trans l (le_of_eq (sym (ap (λ (k : ℕ). plus x + k) c ∙ add-zero (plus x))))) in
     let f = apart_of (plus x) o.over o.below G (grid_pos g) (o.count.is ∙ ap (λ (k : ℕ). k + o.over * G) c ∙ zero-add (o.over * G)) in
-    record { parts = o.over - o.below; is = f.1; count = count_as (o.over - o.below) 0 o.count (turned o.over o.below f.0) }
-  where
-    turned : (p n : ℕ) → p - n + n ≡ p → p + 0 ≡ n + (p - n)
-    turned p n h = omega arith
+    record { parts = o.over - o.below; is = f.1; count = count_as (o.over - o.below) 0 o.count (omega arith) }

@@ -89,20 +89,11 @@ whole_shared {K} s (fin u m e) (fin v n d) p q a b c t =
     ap₂ (λ (z : Bool) (i : ℕ). round binary64 z i 1) (sym same)
     (closest_in_units u m e p.held
     ∙ shared u X N per_one (plus (nearest_whole (fin v n d))) (less (nearest_whole (fin v n d))) per_one_pos (k.plus_is ∙ ap (λ (z : Bool). above z (N * per_one)) same)
-    (k.less_is ∙ ap (λ (z : Bool). under z (N * per_one)) same) (over (above u X + less (nearest_whole (fin v n d))) (under u X + plus (nearest_whole (fin v n d))) (K * S) per_one c.over K_half)
-    (under_it (above u X) (under u X) (plus (nearest_whole (fin v n d))) (less (nearest_whole (fin v n d))) (K * S) per_one c.under K_half))
+    (k.less_is ∙ ap (λ (z : Bool). under z (N * per_one)) same) (omega arith)
+    (omega arith))
   where
     half : (K s : ℕ) → K < 2 ^ 52 → 0 < s → K * s * 2 < s * 2 ^ 53
-    half K s h P = lt_of_lt_of_le (mul-lt-mul_of_pos_right (mul-lt-mul_of_pos_right h P) (lit< tt)) (le_of_eq (twice s))
-      where
-        twice : (s : ℕ) → 2 ^ 52 * s * 2 ≡ s * 2 ^ 53
-        twice s = omega arith
-
-    over : (i j d w : ℕ) → i ≤ j + d → d * 2 < w → i * 2 < j * 2 + w
-    over i j d w g h = omega arith
-
-    under_it : (p n q m d w : ℕ) → q + n ≤ m + p + d → d * 2 < w → (n + q) * 2 < (p + m) * 2 + w
-    under_it p n q m d w g h = omega arith
+    half K s h P = lt_of_lt_of_le (mul-lt-mul_of_pos_right (mul-lt-mul_of_pos_right h P) (lit< tt)) (le_of_eq (omega arith))
 
 -- ---- what is left over the nearest whole value
 -- that value is at most twice as large
@@ -133,10 +124,7 @@ cut : (a b j : ℕ) → a * 2 ^ j ≤ 2 * (b * 2 ^ j) → a ≤ 2 * b
 cut a b j h = le_of_mul-le-mul_right (le_trans h (le_of_eq (sym (mul_assoc 2 b (2 ^ j))))) (pow_pos j)
 
 spread : (a i j : ℕ) → j ≤ i → a * 2 ^ i ≡ a * 2 ^ (i - j) * 2 ^ j
-spread a i j h = ap (λ (d : ℕ). a * 2 ^ d) (sym (back i j h)) ∙ ap (λ (d : ℕ). a * d) (pow-add 2 (i - j) j) ∙ sym (mul_assoc a (2 ^ (i - j)) (2 ^ j))
-  where
-    back : (i j : ℕ) → j ≤ i → i - j + j ≡ i
-    back i j h = omega arith
+spread a i j h = ap (λ (d : ℕ). a * 2 ^ d) (sym (omega arith)) ∙ ap (λ (d : ℕ). a * d) (pow-add 2 (i - j) j) ∙ sym (mul_assoc a (2 ^ (i - j)) (2 ^ j))
 
 -- X of 2^y, at most 2^20 in size, and its nearest whole number of K
 exact_from : {x k : Float} (s : Bool) (m y K : ℕ) → Units s (m * 2 ^ y) x → Units s (K * 2 ^ 1074) k → m < 2 ^ 53 → m * 2 ^ y ≤ 2 ^ 20 * 2 ^ 1074 → K * 2 ^ 1074 ≤ 2 * (m * 2 ^ y) → ExactSum x (neg k)

@@ -24,10 +24,7 @@ nil_bound μ s n = record { scale = s; number = n.number; size = le_trans (le_of
 pub nil_sum : {x y : Float} → Nil x → Nil y → Nil (x ⊕ y)
 nil_sum {x} {y} p q =
     let h = le_of_eq (ap₂ ◌+◌ p.is q.is) in
-    record { number = (add_near 0 p.number q.number (sum_small x y 0 h) zero-le).number; is = none (mag (x ⊕ y)) (add_mag 0 p.number q.number h zero-le) }
-  where
-    none : (n : ℕ) → n * 2 ^ 53 ≤ 0 * 2 ^ 53 + 0 → n ≡ 0
-    none n h = omega arith
+    record { number = (add_near 0 p.number q.number (sum_small x y 0 h) zero-le).number; is = omega (arith, add_mag 0 p.number q.number h zero-le) }
 
 pub nil_product : {x y : Float} → Nil x → Number y → Nil (x ⊗ y)
 nil_product {x} {y} p q =
@@ -47,7 +44,7 @@ unfolding S
 on_own {z} q size some b =
     let few : q ≤ 2 ^ 48 = le_of_mul-le-mul_right (le_trans (le_of_eq (sym size)) b.size) S_pos in
     let small : q * 2 ^ 968 ≤ 2 ^ 48 * 2 ^ 968 = mul-le-mul_right (2 ^ 968) few in
-    let is : mag z ≡ 2 ^ 53 * (q * 2 ^ 968) = size ∙ turn q (2 ^ 968) in
+    let is : mag z ≡ 2 ^ 53 * (q * 2 ^ 968) = size ∙ (omega arith) in
     let one : 1 * 2 ^ 968 ≤ q * 2 ^ 968 = mul-le-mul_right (2 ^ 968) some in
     record {
       bound = record { scale = record { positive = mul-pos some (pow_pos 968); bounded = le_trans small (lit≤ tt) }; number = b.number; size = le_of_eq is };
@@ -55,6 +52,3 @@ on_own {z} q size some b =
       least = le_trans (lit≤ tt) (mul-le-mul (le_refl (2 ^ 53)) one);
       most = le_trans small (lit≤ tt);
     }
-  where
-    turn : (q k : ℕ) → q * (2 ^ 53 * k) ≡ 2 ^ 53 * (q * k)
-    turn q k = omega arith

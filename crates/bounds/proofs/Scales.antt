@@ -56,10 +56,7 @@ onto ν M s b h = record { scale = s; number = b.number; size = le_trans b.size 
 
 -- the sign does not count
 pub neg_bound : {μ K : ℕ} {x : Float} → Bound μ K x → Bound μ K (neg x)
-neg_bound {μ} {K} {x} b = record { scale = b.scale; number = neg_number b.number; size = subst (λ (k : ℕ). k ≤ K * μ) (sym (ap₂ ◌+◌ (neg_plus x) (neg_less x) ∙ swap (less x) (plus x))) b.size }
-  where
-    swap : (a b : ℕ) → a + b ≡ b + a
-    swap a b = omega arith
+neg_bound {μ} {K} {x} b = record { scale = b.scale; number = neg_number b.number; size = subst (λ (k : ℕ). k ≤ K * μ) (sym (ap₂ ◌+◌ (neg_plus x) (neg_less x) ∙ (omega arith))) b.size }
 
 -- ---- numbers that nothing overflows with
 abbrev pub ok : ℕ → Bool
@@ -78,19 +75,13 @@ divided : (m c k μ : ℕ) → 0 < μ → m * 2 ^ 53 ≤ c * (k * μ) → m ≤ 
 divided m c k μ P h =
     let e : c * (k * μ) ≡ c * k * μ = sym (mul_assoc c k μ) in
     let g : c * k ≤ (c * k / 2 ^ 53 + 1) * 2 ^ 53 = rounded_part (c * k) in
-    cut m ((c * k / 2 ^ 53 + 1) * μ) (le_trans h (le_trans (le_of_eq e) (le_trans (mul-le-mul_right μ g) (le_of_eq (mul_right_comm (c * k / 2 ^ 53 + 1) (2 ^ 53) μ)))))
-  where
-    cut : (a b : ℕ) → a * 2 ^ 53 ≤ b * 2 ^ 53 → a ≤ b
-    cut a b h = omega arith
+    (omega (arith, le_trans h (le_trans (le_of_eq e) (le_trans (mul-le-mul_right μ g) (le_of_eq (mul_right_comm (c * k / 2 ^ 53 + 1) (2 ^ 53) μ))))))
 
 rounded_up : (m k μ : ℕ) → 0 < μ → m * 2 ^ 53 ≤ k * μ * 2 ^ 53 + k * μ → m ≤ (k + (k / 2 ^ 53 + 1)) * μ
 rounded_up m k μ P h =
     let g : k ≤ (k / 2 ^ 53 + 1) * 2 ^ 53 = rounded_part k in
     let e : k * μ ≤ (k / 2 ^ 53 + 1) * μ * 2 ^ 53 = le_trans (mul-le-mul_right μ g) (le_of_eq (mul_right_comm (k / 2 ^ 53 + 1) (2 ^ 53) μ)) in
-    le_trans (cut m (k * μ) ((k / 2 ^ 53 + 1) * μ) h e) (le_of_eq (sym (add-mul k (k / 2 ^ 53 + 1) μ)))
-  where
-    cut : (m a b : ℕ) → m * 2 ^ 53 ≤ a * 2 ^ 53 + a → a ≤ b * 2 ^ 53 → m ≤ a + b
-    cut m a b h e = omega arith
+    le_trans (omega arith) (le_of_eq (sym (add-mul k (k / 2 ^ 53 + 1) μ)))
 
 pub both_sizes : {μ K L : ℕ} {x y : Float} → Bound μ K x → Bound μ L y → mag x + mag y ≤ (K + L) * μ
 both_sizes {μ} {K} {L} p q = le_trans (add-le-add p.size q.size) (le_of_eq (sym (add-mul K L μ)))
@@ -138,32 +129,23 @@ sizes {μ} {ν} {π} {K} {L} t p q = le_trans (mul-le-mul p.size q.size) (le_tra
 -- m × s × c ≤ (k × c' + e) × s × π, where e units are at most e × π: then m is at most (k × c' + e) / c + 1 of π
 product_cut : (m s k π c e : ℕ) → 0 < s → 0 < π → 0 < c → m * s * c ≤ k * (s * π) + s * e → m ≤ ((k + e) / c + 1) * π
 product_cut m s k π c e s0 p0 c0 h =
-    let a : m * c * s ≤ (k * π + e) * s = le_trans (le_of_eq (mul_right_comm m c s)) (le_trans h (le_of_eq (gather k s π e))) in
+    let a : m * c * s ≤ (k * π + e) * s = le_trans (le_of_eq (mul_right_comm m c s)) (le_trans h (le_of_eq (omega arith))) in
     let b : m * c ≤ k * π + e = le_of_mul-le-mul_right a s0 in
     let d : k * π + e ≤ (k + e) * π = with_unit k π e p0 in
     let f : (k + e) * π ≤ ((k + e) / c + 1) * c * π = mul-le-mul_right π (over (k + e) c c0) in
     le_of_mul-le-mul_right (le_trans b (le_trans d (le_trans f (le_of_eq (mul_right_comm ((k + e) / c + 1) c π))))) c0
   where
-    gather : (k s π e : ℕ) → k * (s * π) + s * e ≡ (k * π + e) * s
-    gather k s π e = omega arith
-
     with_unit : (k π e : ℕ) → 0 < π → k * π + e ≤ (k + e) * π
     with_unit k (suc π) e h = omega arith
     with_unit k zero e h = omega arith
 
-    one_more : (q c : ℕ) → q * c + c ≡ (q + 1) * c
-    one_more q c = omega arith
-
     over : (a c : ℕ) → 0 < c → a ≤ (a / c + 1) * c
-    over a c h = le_trans (le_of_eq (sym (div-add-mod' a c))) (le_trans (add-le-add (le_refl (a / c * c)) (le_of_lt (mod-lt a h))) (le_of_eq (one_more (a / c) c)))
+    over a c h = le_trans (le_of_eq (sym (div-add-mod' a c))) (le_trans (add-le-add (le_refl (a / c * c)) (le_of_lt (mod-lt a h))) (le_of_eq (omega arith)))
 
 product_most : (m K w s π : ℕ) → m * (s * 2 ^ 53) * 2 ^ 53 ≤ w * 2 ^ 53 + w + s * 2 ^ 53 * 2 ^ 52 → w ≤ K * (s * π) → m * s * 2 ^ 106 ≤ K * (2 ^ 53 + 1) * (s * π) + s * 2 ^ 105
 product_most m K w s π h g =
     let k : w * (2 ^ 53 + 1) ≤ K * (s * π) * (2 ^ 53 + 1) = mul-le-mul_right (2 ^ 53 + 1) g in
-    le_trans (first m s w h) (le_trans (add-le-add k (le_refl (s * 2 ^ 105))) (le_of_eq (ap (λ (z : ℕ). z + s * 2 ^ 105) (mul_right_comm K (s * π) (2 ^ 53 + 1)))))
-  where
-    first : (m s w : ℕ) → m * (s * 2 ^ 53) * 2 ^ 53 ≤ w * 2 ^ 53 + w + s * 2 ^ 53 * 2 ^ 52 → m * s * 2 ^ 106 ≤ w * (2 ^ 53 + 1) + s * 2 ^ 105
-    first m s w h = omega arith
+    le_trans (omega arith) (le_trans (add-le-add k (le_refl (s * 2 ^ 105))) (le_of_eq (ap (λ (z : ℕ). z + s * 2 ^ 105) (mul_right_comm K (s * π) (2 ^ 53 + 1)))))
 
 -- what the products of moderate numbers stay below
 product_limit : (K L π : ℕ) → T (ok K) → T (ok L) → π ≤ 2 ^ 1210 → (K * L * (S * π) + per_one) * 16 ≤ limit * per_one
@@ -235,10 +217,7 @@ full_bounds {μ} {K} {L} {x} {y} p q t = in_parts 5 (from_full_exact_add x y) p 
 
 -- ---- Dekker's product
 dekker_limit : (m K μ : ℕ) → m ≤ K * μ → K * μ * 2 ^ 40 ≤ limit → 2 ^ 40 ≤ limit → (m + 1) * 2 ^ 28 ≤ limit
-dekker_limit m K μ h g l = go m (K * μ) limit h g l
-  where
-    go : (m a L : ℕ) → m ≤ a → a * 2 ^ 40 ≤ L → 2 ^ 40 ≤ L → (m + 1) * 2 ^ 28 ≤ L
-    go m a L h g l = omega arith
+dekker_limit m K μ h g l = omega arith
 
 limit_large : 2 ^ 40 ≤ limit
 unfolding limit
@@ -256,11 +235,8 @@ dekker_bounds {μ} {ν} {π} {K} {L} {x} {y} t p q k l =
       lo = record { scale = t.scale; number = r.lo_number; size = dekker_size (mag (from_exact_mult x y).lo) (mag x * mag y) (K * L) π t.scale.positive r.lo_small w };
     }
   where
-    dekker_most : (m k w s π : ℕ) → m * (s * 2 ^ 53) * 2 ^ 51 ≤ w + s * 2 ^ 53 * 2 ^ 53 → w ≤ k * (s * π) → m * s * 2 ^ 104 ≤ k * (s * π) + s * 2 ^ 106
-    dekker_most m k w s π h g = omega arith
-
     dekker_size : (m w k π : ℕ) → 0 < π → m * per_one * 2 ^ 51 ≤ w + per_one * 2 ^ 53 → w ≤ k * (S * π) → m ≤ ((k + 2 ^ 106) / 2 ^ 104 + 1) * π
-    dekker_size m w k π P h g = product_cut m S k π (2 ^ 104) (2 ^ 106) S_pos P (lit< tt) (dekker_most m k w S π (subst (λ (z : ℕ). m * z * 2 ^ 51 ≤ w + z * 2 ^ 53) one_is h) g)
+    dekker_size m w k π P h g = product_cut m S k π (2 ^ 104) (2 ^ 106) S_pos P (lit< tt) (omega (arith, subst (λ (z : ℕ). m * z * 2 ^ 51 ≤ w + z * 2 ^ 53) one_is h))
 
 -- ---- products of double-doubles
 abbrev pub quick_lo_k : ℕ → ℕ → ℕ → ℕ → ℕ

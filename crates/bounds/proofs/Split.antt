@@ -67,13 +67,10 @@ share_hi : (A x : ℕ) → x * 50331648 ≤ A → x * 2 ^ 25 ≤ A
 share_hi A x h = omega arith
 
 share_lo : (A m x : ℕ) → x * 50331648 ≤ A → m * 2 ^ 53 ≤ x * 2 ^ 53 + x → m * 2 ^ 25 ≤ A
-share_lo A m x g h = less A m x g (twice m x h)
+share_lo A m x g h = omega (arith, twice m x h)
   where
     twice : (m x : ℕ) → m * 2 ^ 53 ≤ x * 2 ^ 53 + x → m * 2 ≤ 3 * x
     twice m x h = omega arith
-
-    less : (A m x : ℕ) → x * 50331648 ≤ A → m * 2 ≤ 3 * x → m * 2 ^ 25 ≤ A
-    less A m x g h = omega arith
 
 apart : (p n x A : ℕ) → p ≤ n + x → x * 2 ^ 25 ≤ A → p * 2 ^ 25 ≤ n * 2 ^ 25 + A
 apart p n x A h g = omega arith

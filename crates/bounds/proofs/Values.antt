@@ -125,18 +125,9 @@ joined a b i j u v w e d =
 difference : (k p n q r c w : ℕ) → 0 < c → k + n ≡ p → p * w ≡ q * c → n * w ≡ r * c → (k * w ≡ (q - r) * c) × (q - r + r ≡ q)
 difference k p n q r c w C e P N =
     let sum : k * w + r * c ≡ q * c = ap (λ (z : ℕ). k * w + z) (sym N) ∙ sym (add-mul k n w) ∙ ap (λ (z : ℕ). z * w) e ∙ P in
-    let order : r ≤ q = le_of_mul-le-mul_right (over (k * w) (r * c) (q * c) sum) C in
-    let whole : q - r + r ≡ q = back q r order in
-    (cancel (k * w) (r * c) ((q - r) * c) (q * c) sum (sym (add-mul (q - r) r c) ∙ ap (λ (z : ℕ). z * c) whole), whole)
-  where
-    over : (a b d : ℕ) → a + b ≡ d → b ≤ d
-    over a b d h = omega arith
-
-    back : (q r : ℕ) → r ≤ q → q - r + r ≡ q
-    back q r h = omega arith
-
-    cancel : (a b d f : ℕ) → a + b ≡ f → d + b ≡ f → a ≡ d
-    cancel a b d f g h = omega arith
+    let order : r ≤ q = le_of_mul-le-mul_right (omega arith) C in
+    let whole : q - r + r ≡ q = omega arith in
+    (omega (arith, sym (add-mul (q - r) r c) ∙ ap (λ (z : ℕ). z * c) whole), whole)
 
 in_whole_units : {p n c q r w : ℕ} {x : Float} → 0 < c → 0 < w → p * w ≡ q * c → n * w ≡ r * c → Rounded binary64 p n c x → Rounded binary64 q r w x
 in_whole_units {p} {n} {c} {q} {r} {w} {x} C W P N R = go R.sign R.exact R.is

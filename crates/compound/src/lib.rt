@@ -53,32 +53,34 @@ pub enum Answer {
 }
 
 impl Answer {
-    // The f32 that it carries.
+    // f of its route and of the f32 that it carries. There is an arm for each route, so that the compiler
+    // works f out with the route known.
     #[tactic(auto, unfolding(crate::specs::Answer::outcome))]
-    pub fn value(self) -> f32
-        ensures { result ≡ (outcome self).value }
+    pub fn with<R, F: FnOnce(Route, f32) -> R>(self, f: F) -> R
+        requires { F.pre f (outcome self).via (outcome self).value }
+        ensures { F.post f (outcome self).via (outcome self).value result }
     {
         match self {
-            Answer::Rule(r)
-            | Answer::Whole(r)
-            | Answer::Edge(r)
-            | Answer::Fast(r)
-            | Answer::Slow(r) => r,
+            Answer::Rule(r) => f(Route::Rule, r),
+            Answer::Whole(r) => f(Route::Whole, r),
+            Answer::Edge(r) => f(Route::Edge, r),
+            Answer::Fast(r) => f(Route::Fast, r),
+            Answer::Slow(r) => f(Route::Slow, r),
         }
     }
 
+    // The f32 that it carries.
+    pub fn value(self) -> f32
+        ensures { result ≡ (outcome self).value }
+    {
+        self.with(|_, r| r)
+    }
+
     // Its route.
-    #[tactic(auto, unfolding(crate::specs::Answer::outcome))]
     pub fn route(self) -> Route
         ensures { result ≡ (outcome self).via }
     {
-        match self {
-            Answer::Rule(_) => Route::Rule,
-            Answer::Whole(_) => Route::Whole,
-            Answer::Edge(_) => Route::Edge,
-            Answer::Fast(_) => Route::Fast,
-            Answer::Slow(_) => Route::Slow,
-        }
+        self.with(|route, _| route)
     }
 }
 

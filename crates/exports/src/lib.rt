@@ -8,9 +8,9 @@ ghost use Rattle.std.specs.Prelude.{◌≡◌};
 ghost use Rattle.std.specs.Float.{binary32};
 ghost use Rattle.std.specs.Float.Ieee.{of_bits};
 ghost use Rattle.compound.specs.Route.{compound};
-ghost use Rattle.exports.specs.Packed.{packed};
+ghost use Rattle.exports.specs.Packed as spec;
 
-use compound::f_compoundf;
+use compound::{Route, f_compoundf};
 use std::num::f32_to_bits_with_nan;
 
 // (1 + x)^y for the patterns x and y of two f32: the route's number in the upper half, from 0 in the
@@ -18,10 +18,15 @@ use std::num::f32_to_bits_with_nan;
 // NaN.
 #[unsafe(no_mangle)]
 pub extern "C" fn fade_compoundf(x: u32, y: u32) -> u64
-    ensures { result ≡ packed (compound (of_bits binary32 x) (of_bits binary32 y)) }
+    ensures { result ≡ spec.packed (compound (of_bits binary32 x) (of_bits binary32 y)) }
 {
-    let answer = f_compoundf(x, y);
-    let via = answer.route() as u64;
-    let value = f32_to_bits_with_nan(answer.value()) as u64;
-    via * 0x1_0000_0000 + value
+    f_compoundf(x, y).with(packed)
+}
+
+// The route's number in the upper half, and the pattern of the value in the lower.
+#[tactic(auto, unfolding(crate::specs::Packed::packed))]
+fn packed(via: Route, value: f32) -> u64
+    ensures { result ≡ spec.packed (record { via = via; value = value }) }
+{
+    via as u64 * 0x1_0000_0000 + f32_to_bits_with_nan(value) as u64
 }

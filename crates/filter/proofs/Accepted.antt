@@ -1,6 +1,6 @@
 -- Where the plain pattern is clear of every midpoint of two f32s, the fast path's rounding test passes, and its value narrows to what the plain pattern rounds to
 -- (`accepted`). Assumes nothing.
-use Rattle.std.proofs.Common.{◌≡◌, ℕ, ◌+◌, ◌-◌, ◌*◌, ◌/◌, ◌%◌, ◌^◌, ◌<◌, ◌≤◌, min, not, T, ℤ, pos, negsuc, Some, sym, ap, ◌∙◌, arith, lit<, lit≤}
+use Rattle.std.proofs.Common.{◌≡◌, ℕ, ◌+◌, ◌-◌, ◌*◌, ◌/◌, ◌%◌, ◌^◌, ◌<◌, ◌≤◌, not, T, ℤ, pos, negsuc, Some, sym, ap, ◌∙◌, arith, lit<, lit≤}
 use lib.Ieee.{binary32, nan_bits, of_bits}
 use lib.Ieee.Bits.{of_bits-to_bits}
 use Rattle.floats.specs.Operations.{f64}
@@ -34,10 +34,7 @@ lifted_high (pos n) h = omega (arith, h)
 lifted_high (negsuc n) h = omega (arith, h)
 
 pub scaled_is : (b : ℕ) (k : ℤ) → Within 124 k → 982 * 2 ^ 52 ≤ b → b < 1024 * 2 ^ 52 → scaled b k + 2 ^ 64 ≡ b + lifted k * 2 ^ 52
-scaled_is b k w g h = ap (λ (n : ℕ). n + 2 ^ 64) (sym (lifted_sum b k (within_more k w))) ∙ no_wrap b (lifted k) g h (lifted_low k w) (lifted_high k w)
-  where
-    no_wrap : (b n : ℕ) → 982 * 2 ^ 52 ≤ b → b < 1024 * 2 ^ 52 → 3972 ≤ n → n ≤ 4220 → (b + n % 4096 * 2 ^ 52) % 2 ^ 64 + 2 ^ 64 ≡ b + n * 2 ^ 52
-    no_wrap b n g h l m = omega arith
+scaled_is b k w g h = ap (λ (n : ℕ). n + 2 ^ 64) (sym (lifted_sum b k (within_more k w))) ∙ (omega (arith, lifted_low k w, lifted_high k w))
 
 -- ---- the two patterns w and w', and e of the error
 record Patterns (w w' e : ℕ) : Type 0 where
@@ -60,34 +57,15 @@ patterns b b' n w w' e p q g h l m x y z = record {
 -- where w' is more than 2^20 + 2^15 from every midpoint, w is more than 2^15 from each, and no midpoint is between them
 module _ (w w' e : ℕ) (p : Patterns w w' e) (t : 2 * margin < (w' + (0x10000000 + margin)) % 0x20000000) where
   clear : 0x6000 < (w + 0x10002000) % 0x20000000
-  clear = apart w w' p.over p.under t
-    where
-      apart : (w w' : ℕ) → w ≤ w' + 2 ^ 20 → w' ≤ w + 2 ^ 20 → 2 * margin < (w' + (0x10000000 + margin)) % 0x20000000 → 0x6000 < (w + 0x10002000) % 0x20000000
-      apart w w' g h t = omega arith
+  clear = omega arith
 
   passed : Some (f64 w) ≡ rounding_test (f64 w) (f64 e)
-  passed = clear_of_midpoints w e (least w p.low) (most w p.high) p.beside clear
-    where
-      least : (w : ℕ) → 898 * 2 ^ 52 ≤ w → 0x3810000000004000 ≤ w
-      least w h = omega arith
-
-      most : (w : ℕ) → w < 1148 * 2 ^ 52 → w < 0x7fe0000000000000
-      most w h = omega arith
+  passed = clear_of_midpoints w e (omega arith) (omega arith) p.beside clear
 
   narrowed_is : narrowed (f64 w) ≡ of_bits binary32 ((w' + 0x10000000) / 0x20000000 - 0x1c0000000)
   narrowed_is =
       sym (of_bits-to_bits binary32 (narrowed (f64 w)) (narrowed_fits (f64 w)))
-      ∙ ap (of_bits binary32) (normal_magnitude w (most w p.high) (least w p.low) ∙ rounds w w' p.low p.high p.over p.under t)
-    where
-      least : (w : ℕ) → 898 * 2 ^ 52 ≤ w → 897 * 2 ^ 52 ≤ w
-      least w h = omega arith
-
-      most : (w : ℕ) → w < 1148 * 2 ^ 52 → w ≤ 0x7ff0000000000000
-      most w h = omega arith
-
-      rounds : (w w' : ℕ) → 898 * 2 ^ 52 ≤ w → w < 1148 * 2 ^ 52 → w ≤ w' + 2 ^ 20 → w' ≤ w + 2 ^ 20 → 2 * margin < (w' + (0x10000000 + margin)) % 0x20000000
-          → min ((w + 268435455 + w / 536870912 % 2) / 536870912 - 7516192768) 0x7f800000 ≡ (w' + 0x10000000) / 0x20000000 - 0x1c0000000
-      rounds w w' l m g h t = omega arith
+      ∙ ap (of_bits binary32) (normal_magnitude w (omega arith) (omega arith) ∙ (omega arith))
 
 -- ---- the two together, for the patterns before they are scaled
 pub accepted : (b b' : ℕ) (k : ℤ) → Unscaled b → Unscaled b' → b ≤ b' + 2 ^ 20 → b' ≤ b + 2 ^ 20 → Within 124 k → 2 * margin < (scaled b' k + (0x10000000 + margin)) % 0x20000000 → Accepted b b' k
@@ -112,7 +90,4 @@ pub left_small : (w : ℕ) → w < 1148 * 2 ^ 52 → left_of w ≤ 0x7f800000
 left_small w h = omega arith
 
 pub left_number : (w : ℕ) → w < 1148 * 2 ^ 52 → T (not (nan_bits binary32 (left_of w)))
-left_number w h = number_of_below binary32 (left_of w) (within (left_of w) (left_small w h))
-  where
-    within : (n : ℕ) → n ≤ 0x7f800000 → n % 2 ^ 31 ≤ 0x7f800000
-    within n h = omega arith
+left_number w h = number_of_below binary32 (left_of w) (omega (arith, left_small w h))

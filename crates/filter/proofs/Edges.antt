@@ -1,6 +1,6 @@
 -- What the plain t' settles at the edges: at most -151, t is at the lower edge (`low_edge_lem`); at least 129, at the upper (`high_edge_lem`); 0, at that of 1 (`at_one`); and from -149.5 to -128 the fast
 -- path fails its tests, since its value is below the normal f32s (`below_normals`). Assumes nothing.
-use Rattle.std.proofs.Common.{◌≡◌, ℕ, zero, suc, ◌+◌, ◌-◌, ◌*◌, ◌/◌, ◌%◌, ◌^◌, ◌<◌, ◌≤◌, min, Bool, true, false, cond, not, ◌&&◌, leb, ◌⊎◌, ℤ, pos, negsuc, neg_ℤ, sym, refl, ap, ◌∙◌, subst, inl, inr, true≢false, le_trans, le_of_eq, mul-le-mul_right, mul_assoc, mul_comm, mul-pos, le-div_iff_mul-le, zero-add, mul_right_comm, le_of_mul-le-mul_right, arith, lit<, lit≤, le-leb, None}
+use Rattle.std.proofs.Common.{◌≡◌, ℕ, zero, suc, ◌+◌, ◌*◌, ◌/◌, ◌%◌, ◌^◌, ◌<◌, ◌≤◌, min, Bool, true, false, cond, not, ◌&&◌, leb, ◌⊎◌, ℤ, pos, negsuc, neg_ℤ, sym, refl, ap, ◌∙◌, subst, inl, inr, true≢false, le_trans, le_of_eq, mul-le-mul_right, mul_assoc, mul_comm, mul-pos, le-div_iff_mul-le, zero-add, mul_right_comm, le_of_mul-le-mul_right, arith, lit<, lit≤, le-leb, None}
 use borrow.Author.Tests.{lt-leb}
 use lib.Ieee.{Float, nan, inf, fin, binary64, up, down, size, fits, to_bits, to_signed, le, lt, eq, is_nan}
 use lib.Ieee.Fits.{down_pos}
@@ -188,7 +188,7 @@ cast_low b (fin true m e) l h n g = go (min (m * up e / down e) (2 ^ 63)) (le_mi
 
 -- scaled by such a k, a pattern is below that of 2^-126
 scaled_low : (v : ℕ) (k : ℤ) → Unscaled v → Within 150 k → AtMost 127 k → scaled v k < 0x3810000000000000
-scaled_low v k u w a = subst (λ (n : ℕ). n < 0x3810000000000000) (lifted_sum v k (wider k w)) (omega (arith, low k w, subst (λ (z : ℤ). lifted z ≤ 3969) (sym a.is) (high a.by a.least)))
+scaled_low v k u w a = subst (λ (n : ℕ). n < 0x3810000000000000) (lifted_sum v k (wider k w)) (omega (arith, low k w, subst (λ (z : ℤ). lifted z ≤ 3969) (sym a.is) (omega arith)))
   where
     wider : (k : ℤ) → Within 150 k → Within 1000 k
     wider (pos n) h = omega (arith, h)
@@ -197,9 +197,6 @@ scaled_low v k u w a = subst (λ (n : ℕ). n < 0x3810000000000000) (lifted_sum 
     low : (k : ℤ) → Within 150 k → 3946 ≤ lifted k
     low (pos n) h = omega (arith, h)
     low (negsuc n) h = omega (arith, h)
-
-    high : (n : ℕ) → 127 ≤ suc n → 4096 - suc n ≤ 3969
-    high n h = omega arith
 
 -- t from -149.7 to -127.8
 record Subnormal (t : Float) : Type 0 where

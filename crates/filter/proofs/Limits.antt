@@ -21,16 +21,10 @@ between_bound {a} {b} {x} K p q n g h = record {
 
 -- below a number c that is larger, and above one that is smaller
 pub under_limit : {x c : Float} (K : ℕ) → Bound S K x → Number c → less c ≡ 0 → K * S < plus c → lt x c ≡ true
-under_limit {x} {c} K b n e h = lt_true b.number n (go (plus x) (less x) (plus c) (less c) (K * S) e b.size h)
-  where
-    go : (p n q m k : ℕ) → m ≡ 0 → p + n ≤ k → k < q → p + m < q + n
-    go p n q m k e g h = omega arith
+under_limit {x} {c} K b n e h = lt_true b.number n (omega arith)
 
 pub over_limit : {x c : Float} (K : ℕ) → Bound S K x → Number c → plus c ≡ 0 → K * S < less c → lt c x ≡ true
-over_limit {x} {c} K b n e h = lt_true n b.number (go (plus x) (less x) (plus c) (less c) (K * S) e b.size h)
-  where
-    go : (p n q m k : ℕ) → q ≡ 0 → p + n ≤ k → k < m → q + n < p + m
-    go p n q m k e g h = omega arith
+over_limit {x} {c} K b n e h = lt_true n b.number (omega arith)
 
 -- ---- the numbers of the code
 pub is_minus_151 : of_bits binary64 0xc062e00000000000 ≡ fin true 151 (pos 0)

@@ -45,25 +45,19 @@ times c s h = le_trans (le_of_eq (sym (one-mul s))) (mul-le-mul_right s h)
 -- a distance of a 2^40th of c, where c is the size at least
 beside_of : {μ D : ℕ} {l l' : Float} (c : ℕ) → Bound S (2 ^ 62) l → Bound S (2 ^ 62) l' → Apart μ D l l' → c * μ ≤ mag l' → D * 2 ^ 40 ≤ c → S ≤ c * μ → LogBeside l l'
 beside_of {μ} {D} {l} {l'} c p q a least h some =
-    let d : D * μ * 2 ^ 40 ≤ mag l' = le_trans (le_of_eq (turn D μ)) (le_trans (mul-le-mul_right μ h) least) in
+    let d : D * μ * 2 ^ 40 ≤ mag l' = le_trans (le_of_eq (omega arith)) (le_trans (mul-le-mul_right μ h) least) in
     record {
       near = record {
         number = p.number;
         beside = q.number;
         over = go (plus l + less l') (less l + plus l') (D * μ) (mag l') a.over d;
-        under = go (less l + plus l') (plus l + less l') (D * μ) (mag l') (turned (plus l) (less l) (plus l') (less l') (D * μ) a.under) d;
+        under = go (less l + plus l') (plus l + less l') (D * μ) (mag l') (omega arith) d;
       };
       size = p;
       plain_size = q;
       some = inr (large (le_trans some least));
     }
   where
-    turn : (D m : ℕ) → D * m * 2 ^ 40 ≡ D * 2 ^ 40 * m
-    turn D m = omega arith
-
-    turned : (p n q m d : ℕ) → q + n ≤ m + p + d → n + q ≤ p + m + d
-    turned p n q m d h = omega arith
-
     go : (a b d m : ℕ) → a ≤ b + d → d * 2 ^ 40 ≤ m → a * 2 ^ 40 ≤ b * 2 ^ 40 + m
     go a b d m g h = omega arith
 
@@ -151,10 +145,7 @@ module _ (v : ℕ) (low : 999 * 2 ^ 52 ≤ v) (high : v < 1151 * 2 ^ 52) where
   z'-number = (add_bound (mul_bound (unit_left unit) r_size (positive_bound t_positive) tt tt) minus_one_is.0 tt).number
 
   z'-size : Bound S (2 ^ 47 + 2 ^ 34) z'
-  z'-size = record { scale = unit; number = z'-number; size = go (mag z) (mag z') S z_size.size (not_less z_apart) }
-    where
-      go : (z y s : ℕ) → z ≤ (2 ^ 47 + 2 ^ 33) * s → y ≤ z + 40 * s → y ≤ (2 ^ 47 + 2 ^ 34) * s
-      go z y s g h = omega arith
+  z'-size = record { scale = unit; number = z'-number; size = omega (arith, z_size.size, not_less z_apart) }
 
   p_size : Bound S (47 * 2 ^ 42 + 2 ^ 36) p
   unfolding p
@@ -215,17 +206,14 @@ module _ (v : ℕ) (low : 999 * 2 ^ 52 ≤ v) (high : v < 1151 * 2 ^ 52) where
     nil_case : Nil z → Beside
     unfolding p p'
     nil_case h =
-        let h' : Nil z' = record { number = z'-number; is = none (mag z) (mag z') S h.is (not_less (same S)) } in
+        let h' : Nil z' = record { number = z'-number; is = omega (arith, not_less (same S)) } in
         both_nil (nil_sum n (nil_sum a_nil (nil_product h (fast_factor z_size).number))) (nil_sum n (nil_sum a_nil (nil_product h' (plain_factor_lem z'-size).number)))
-      where
-        none : (z y s : ℕ) → z ≡ 0 → y ≤ z + 0 * s → y ≡ 0
-        none z y s e h = omega arith
 
     near_case : {σ : ℕ} → Own σ z → Beside
     unfolding p p'
     near_case {σ} o =
         let scale = o.bound.scale in
-        let o' : Bound σ (2 ^ 53) z' = record { scale = scale; number = z'-number; size = le_trans (not_less (same σ)) (le_trans (le_of_eq (ap (λ (k : ℕ). k + 0 * σ) o.is)) (le_of_eq (none σ))) } in
+        let o' : Bound σ (2 ^ 53) z' = record { scale = scale; number = z'-number; size = le_trans (not_less (same σ)) (le_trans (le_of_eq (ap (λ (k : ℕ). k + 0 * σ) o.is)) (le_of_eq (omega arith))) } in
         let P = own_product o z_size in
         let P' = at (3 * 2 ^ 52) (mul_bound (unit_right scale) o' (plain_factor_lem z'-size) tt tt) tt in
         let A = nil_bound σ scale a_nil in
@@ -235,13 +223,7 @@ module _ (v : ℕ) (low : 999 * 2 ^ 52 ≤ v) (high : v < 1151 * 2 ^ 52) where
         let product = product_apart (unit_right scale) (same σ) (factor_beside z_apart z_size z'-size) o.bound (positive_bound (fast_factor z_size)) o' (plain_factor_lem z'-size) tt in
         let l = apart_at 140 (sum_apart (apart_same e) (sum_apart (apart_same a) product A P A P' tt tt) E q E q' tt tt) tt in
         beside_of (2 ^ 53) (nil_size n (part_size a_size p_size)) (nil_size n (part_size a_size p'-size)) l
-        (from_l (mag (e ⊕ (a ⊕ p))) (mag (e ⊕ (a ⊕ p'))) σ (near_least n a_nil o z_size) (not_more l)) (lit≤ tt) o.least
-      where
-        none : (s : ℕ) → 2 ^ 53 * s + 0 * s ≡ 2 ^ 53 * s
-        none s = omega arith
-
-        from_l : (l k s : ℕ) → 11 * 2 ^ 50 * s ≤ l → l ≤ k + 140 * s → 2 ^ 53 * s ≤ k
-        from_l l k s g h = omega arith
+        (omega (arith, near_least n a_nil o z_size, not_more l)) (lit≤ tt) o.least
 
     near_cases : Beside
     near_cases = go (eq-zero-or-pos off.parts)

@@ -17,7 +17,7 @@ use Rattle.fast_path.specs.Scaling.{scaled, Within}
 use Rattle.fast_path.specs.Fast.{power_index}
 use Rattle.fast_path.proofs.Lifted.{lifted}
 use Rattle.fast_path.proofs.Index.{between_finite, within_of_size}
-use Rattle.bounds.proofs.Values.{per_one, plus, less, mag, Number}
+use Rattle.bounds.proofs.Values.{plus, less, mag, Number}
 use Rattle.bounds.proofs.Scales.{S, one_is, Bound, at}
 use Rattle.bounds.proofs.Distances.{apart_at}
 use Rattle.bounds.proofs.Apart.{apart_same}
@@ -48,16 +48,10 @@ not_small {t} n h = go (lt (neg (f64 0x2d30000000000000)) t) refl (lt t (f64 0x2
     above : Number (f64 0x2d30000000000000) × (less (f64 0x2d30000000000000) ≡ 0) × (plus (f64 0x2d30000000000000) ≡ 2 ^ 774)
     above = unfold of_bits fits in (record { held = tt; plain = tt }, refl, refl)
 
-    from_below : (p n q k w : ℕ) → q ≡ 0 → k ≡ w → p + k ≤ q + n → w ≤ p + n
-    from_below p n q k w e f h = omega arith
-
-    from_above : (p n q k w : ℕ) → k ≡ 0 → q ≡ w → q + n ≤ p + k → w ≤ p + n
-    from_above p n q k w e f h = omega arith
-
     go : (x : Bool) → lt (neg (f64 0x2d30000000000000)) t ≡ x → (y : Bool) → lt t (f64 0x2d30000000000000) ≡ y → (x && y) ≡ false → 2 ^ 774 ≤ mag t
     go true e true f h = absurd (true≢false h)
-    go true e false f h = from_above (plus t) (less t) (plus (f64 0x2d30000000000000)) (less (f64 0x2d30000000000000)) (2 ^ 774) above.1 above.2 (units_of_not_lt n above.0 f)
-    go false e y f h = from_below (plus t) (less t) (plus (neg (f64 0x2d30000000000000))) (less (neg (f64 0x2d30000000000000))) (2 ^ 774) below.1 below.2 (units_of_not_lt below.0 n e)
+    go true e false f h = omega (arith, above.1, above.2, units_of_not_lt n above.0 f)
+    go false e y f h = omega (arith, below.1, below.2, units_of_not_lt below.0 n e)
 
 -- what is not 0 is not -0, and its nearest whole number with +0 in the place of -0 leaves the same
 pub plus_zero_lem : (t : Float) → 0 < mag t → t ⊖ (nearest_whole t ⊕ plus_zero) ≡ t ⊖ nearest_whole t
@@ -115,10 +109,7 @@ edges_of b = inside_edges (at (125 * 2 ^ 53) b tt)
 
 module _ (t : Float) (b : Bound S (124 * 2 ^ 53) t) where
   small : SizeAtMost 124 t
-  small = units_in_size 124 t b.number (le_trans b.size (le_of_eq (go S per_one one_is)))
-    where
-      go : (s w : ℕ) → w ≡ s * 2 ^ 53 → 124 * 2 ^ 53 * s ≡ 124 * w
-      go s w e = omega arith
+  small = units_in_size 124 t b.number (le_trans b.size (le_of_eq (omega (arith, one_is))))
 
   pub whole_within : Within 124 (to_signed 63 (nearest_whole t))
   whole_within = within_of_size 124 (nearest_whole t) (whole_at_most t b.number.held 124 small)

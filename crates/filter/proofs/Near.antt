@@ -215,10 +215,7 @@ module _ (s : Bool) (t t' : Float) (sign : HasSign s t) (sign' : HasSign s t') (
       ap (λ (i : ℤ). rounding_test (f64 (scaled (exp2_reduced (t ⊖ nearest_whole t)) i)) (f64 (scaled 0x3d61d00000000000 i))) (ap (to_signed 63) k_of ∙ cast_zero s)
       ∙ ap₂ (λ (v e : ℕ). rounding_test (f64 v) (f64 e)) (unscaled_same (exp2_reduced (t ⊖ nearest_whole t)) (in_range (exp2_reduced (t ⊖ nearest_whole t)) p.fast)) (unscaled_same 0x3d61d00000000000 (lit< tt))
       ∙ sym (near_midpoint_lem (exp2_reduced (t ⊖ nearest_whole t)) p.fast.low p.fast.high
-      (both (exp2_reduced (t ⊖ nearest_whole t)) (plain_pattern t') p.over p.under (subst (λ (w : ℕ). (w + (0x10000000 + nearness)) % 0x20000000 ≤ 2 * nearness) scaled_plain h)))
-    where
-      both : (w w' : ℕ) → w ≤ w' + 64 → w' ≤ w + 64 → (w' + (0x10000000 + nearness)) % 0x20000000 ≤ 2 * nearness → (w + 0x10000840) % 0x20000000 ≤ 0x1080
-      both w w' g h t = omega arith
+      (omega (arith, subst (λ (w : ℕ). (w + (0x10000000 + nearness)) % 0x20000000 ≤ 2 * nearness) scaled_plain h)))
 
 -- ---- what the tests say of t'
 small_bound : {t' : Float} → Number t' → le t' (f64 0x3f10000000000000) ≡ true → le (neg (f64 0x3f10000000000000)) t' ≡ true → Bound S (2 ^ 39) t'
@@ -228,14 +225,11 @@ small_bound n g h = end_bound (2 ^ 39) (f64 0x3f10000000000000) (unfold of_bits 
 close : {t t' : Float} → TimesBeside t t' → Bound S (2 ^ 39) t' → Apart S 1 t t'
 close {t} {t'} b m = record {
   over = go (plus t + less t') (less t + plus t') (mag t') S m.size b.over;
-  under = turned (plus t) (less t) (plus t') (less t') (1 * S) (go (less t + plus t') (plus t + less t') (mag t') S m.size b.under);
+  under = omega (arith, go (less t + plus t') (plus t + less t') (mag t') S m.size b.under);
 }
   where
     go : (x y z s : ℕ) → z ≤ 2 ^ 39 * s → x * 2 ^ 45 ≤ y * 2 ^ 45 + 33 * z → x ≤ y + 1 * s
     go x y z s g h = omega arith
-
-    turned : (p n q k d : ℕ) → n + q ≤ p + k + d → q + n ≤ k + p + d
-    turned p n q k d h = omega arith
 
 pub near_right : (s : Bool) (t t' : Float) → HasSign s t → HasSign s t' → TimesBeside t t' → Inside t → Right (near_midpoint t' (scaled (plain_pattern t') (to_signed 63 (nearest_whole t')))) t
 unfolding near_midpoint

@@ -81,13 +81,7 @@ both j B s = omega arith
 module _ {s p n a b q m A B N j i : ℕ} (h : Beside s p n a b q m A B N j i) where
   -- the numbers times s
   N_times : N * s + 16 * s ≡ 32 * (j * s) + i * s
-  N_times = sym (spread N 16 s) ∙ ap (λ (z : ℕ). z * s) h.split ∙ gather j i s
-    where
-      spread : (u v s : ℕ) → (u + v) * s ≡ u * s + v * s
-      spread u v s = omega arith
-
-      gather : (j i s : ℕ) → (32 * j + i) * s ≡ 32 * (j * s) + i * s
-      gather j i s = omega arith
+  N_times = sym (omega arith) ∙ ap (λ (z : ℕ). z * s) h.split ∙ (omega arith)
 
   i_least : s ≤ i * s
   i_least = go i h.some
@@ -97,24 +91,15 @@ module _ {s p n a b q m A B N j i : ℕ} (h : Beside s p n a b q m A B N j i) wh
       go zero g = omega arith
 
   i_most : i * s ≤ 31 * s
-  i_most = mul-le-mul_right s (fewer i h.few)
-    where
-      fewer : (i : ℕ) → i < 32 → i ≤ 31
-      fewer i g = omega arith
+  i_most = mul-le-mul_right s (omega arith)
 
   -- k is less than one from j - 3 * 2^46, so it is that
   k_is : A + 3 * 2 ^ 46 ≡ j + B
   k_is =
       let o = near s p n a b q m (A * s) (B * s) (N * s) (j * s) (i * s) h.positive h.grid_over h.grid_under h.whole_over h.whole_under (h.k_plus ∙ moved A s) (h.k_less ∙ moved B s) (h.in_grid ∙ ap (λ (z : ℕ). m + z) (turned N s)) N_times i_least i_most in
-      le_antisymm (below (lt_of_mul-lt-mul_right s (subst (λ (z : ℕ). z < (j + B + 1) * s) (sym (left A s)) (subst (λ (z : ℕ). A * s + 3 * 2 ^ 46 * s < z) (sym (right j B s)) o.0))))
-      (below (lt_of_mul-lt-mul_right s (subst (λ (z : ℕ). z < (A + 3 * 2 ^ 46 + 1) * s) (sym (both j B s)) (subst (λ (z : ℕ). j * s + B * s < z) (sym (more A s)) o.1))))
+      le_antisymm (below (lt_of_mul-lt-mul_right s (subst (λ (z : ℕ). z < (j + B + 1) * s) (sym (left A s)) (subst (λ (z : ℕ). A * s + 3 * 2 ^ 46 * s < z) (sym (omega arith)) o.0))))
+      (below (lt_of_mul-lt-mul_right s (subst (λ (z : ℕ). z < (A + 3 * 2 ^ 46 + 1) * s) (sym (both j B s)) (subst (λ (z : ℕ). j * s + B * s < z) (sym (omega arith)) o.1))))
     where
-      right : (j B s : ℕ) → (j + B + 1) * s ≡ j * s + B * s + s
-      right j B s = omega arith
-
-      more : (A s : ℕ) → (A + 3 * 2 ^ 46 + 1) * s ≡ A * s + 3 * 2 ^ 46 * s + s
-      more A s = omega arith
-
       below : {u v : ℕ} → u < v + 1 → u ≤ v
       below g = omega (arith, g)
 
@@ -124,10 +109,7 @@ module _ {s p n a b q m A B N j i : ℕ} (h : Beside s p n a b q m A B N j i) wh
 
   -- so the nearest 32nd is k and (i - 16)/32
   level : q + b + 16 * (2 ^ 48 * s) ≡ m + a + i * (2 ^ 48 * s)
-  level = go s a b q m (A * s) (B * s) (N * s) (j * s) (i * s) (h.k_plus ∙ moved A s) (h.k_less ∙ moved B s) (h.in_grid ∙ ap (λ (z : ℕ). m + z) (turned N s)) N_times (sym (left A s) ∙ ap (λ (z : ℕ). z * s) k_is ∙ both j B s) ∙ ap (λ (z : ℕ). m + a + z) (sym (turned i s))
-    where
-      go : (s a b q m A B N j i : ℕ) → a ≡ A * 2 ^ 53 → b ≡ B * 2 ^ 53 → q + 3 * 2 ^ 51 * (2 ^ 48 * s) ≡ m + N * 2 ^ 48 → N + 16 * s ≡ 32 * j + i → A + 3 * 2 ^ 46 * s ≡ j + B → q + b + 16 * (2 ^ 48 * s) ≡ m + a + i * 2 ^ 48
-      go s a b q m A B N j i e f d c k = omega arith
+  level = omega (arith, h.k_plus ∙ moved A s, h.k_less ∙ moved B s, h.in_grid ∙ ap (λ (z : ℕ). m + z) (turned N s), N_times, sym (left A s) ∙ ap (λ (z : ℕ). z * s) k_is ∙ both j B s) ∙ ap (λ (z : ℕ). m + a + z) (sym (turned i s))
 
   -- the 32nd of index i, x - y, is as far from what is left of t over k, v - w, as the nearest 32nd is from t
   near_index : (v w x y : ℕ) → v + n + a ≡ w + p + b → x + 16 * (2 ^ 48 * s) ≡ y + i * (2 ^ 48 * s) → (v + y ≤ w + x + (2 ^ 47 - 8) * s) × (x + w ≤ y + v + (2 ^ 47 - 8) * s)
@@ -139,21 +121,12 @@ module _ {s p n a b q m A B N j i : ℕ} (h : Beside s p n a b q m A B N j i) wh
 
   -- and what is left of it over that is what is left of t over the nearest 32nd
   same_rest : (v w x y : ℕ) → v + n + a ≡ w + p + b → x + 16 * (2 ^ 48 * s) ≡ y + i * (2 ^ 48 * s) → y + v + (q + n) ≡ x + w + (m + p)
-  same_rest v w x y e d = go s p n a b q m (i * (2 ^ 48 * s)) v w x y level e d
-    where
-      go : (s p n a b q m I v w x y : ℕ) → q + b + 16 * (2 ^ 48 * s) ≡ m + a + I → v + n + a ≡ w + p + b → x + 16 * (2 ^ 48 * s) ≡ y + I → y + v + (q + n) ≡ x + w + (m + p)
-      go s p n a b q m I v w x y e d c = omega arith
+  same_rest v w x y e d = omega (arith, level, e, d)
 
   -- what is left of t over k is at most 31/64
   part_most : (v w : ℕ) → v + n + a ≡ w + p + b → (v ≤ w + 31 * 2 ^ 47 * s) × (w ≤ v + 31 * 2 ^ 47 * s)
-  part_most v w e = go s p n a b q m (i * (2 ^ 48 * s)) v w h.grid_over h.grid_under level e (le_trans (le_of_eq (turned i s)) (le_trans (mul-le-mul_right (2 ^ 48) i_most) (le_of_eq (swap s)))) (le_trans (le_of_eq (sym (swap_one s))) (le_trans (mul-le-mul_right (2 ^ 48) i_least) (le_of_eq (sym (turned i s)))))
+  part_most v w e = go s p n a b q m (i * (2 ^ 48 * s)) v w h.grid_over h.grid_under level e (le_trans (le_of_eq (turned i s)) (le_trans (mul-le-mul_right (2 ^ 48) i_most) (le_of_eq (omega arith)))) (le_trans (le_of_eq (sym (omega arith))) (le_trans (mul-le-mul_right (2 ^ 48) i_least) (le_of_eq (sym (turned i s)))))
     where
-      swap : (s : ℕ) → 31 * s * 2 ^ 48 ≡ 31 * (2 ^ 48 * s)
-      swap s = omega arith
-
-      swap_one : (s : ℕ) → s * 2 ^ 48 ≡ 2 ^ 48 * s
-      swap_one s = omega arith
-
       go : (s p n a b q m I v w : ℕ) → p + m ≤ n + q + (2 ^ 47 - 2 ^ 23 + 300) * s → q + n ≤ m + p + (2 ^ 47 - 2 ^ 23 + 300) * s → q + b + 16 * (2 ^ 48 * s) ≡ m + a + I → v + n + a ≡ w + p + b → I ≤ 31 * (2 ^ 48 * s) → 2 ^ 48 * s ≤ I
           → (v ≤ w + 31 * 2 ^ 47 * s) × (w ≤ v + 31 * 2 ^ 47 * s)
       go s p n a b q m I v w g l e d c f = (omega arith, omega arith)
@@ -209,10 +182,7 @@ module _ (t : Float) (b : Bound S (124 * 2 ^ 53) t) where
   sum_range = positive_at (3 * 2 ^ 99 - 125 * 2 ^ 53) (3 * 2 ^ 99 + 125 * 2 ^ 53) (positive_add wide_is b tt tt) tt tt
 
   grid : Clear (2 ^ 48 * S) (wide ⊕ t)
-  grid = on_grid_clear grid32 sum_range.number sum_range.clear (le_trans (go S) sum_range.least)
-    where
-      go : (s : ℕ) → 2 ^ 52 * (2 ^ 48 * s) ≤ (3 * 2 ^ 99 - 125 * 2 ^ 53) * s
-      go s = omega arith
+  grid = on_grid_clear grid32 sum_range.number sum_range.clear (le_trans (omega arith) sum_range.least)
 
   N : ℕ
   N = grid.parts
@@ -220,18 +190,12 @@ module _ (t : Float) (b : Bound S (124 * 2 ^ 53) t) where
   N_range : (2 ^ 52 ≤ N) × (N < 2 ^ 53)
   unfolding N
   N_range = (
-    le_of_mul-le-mul_right (le_trans (low S) (le_trans sum_range.least (le_of_eq grid.is))) parts_pos,
-    lt_of_mul-lt-mul_right (2 ^ 48 * S) (lt_of_le_of_lt (le_of_eq (sym grid.is)) (lt_of_le_of_lt sum_range.most (high S S_pos))),
+    le_of_mul-le-mul_right (le_trans (omega arith) (le_trans sum_range.least (le_of_eq grid.is))) parts_pos,
+    lt_of_mul-lt-mul_right (2 ^ 48 * S) (lt_of_le_of_lt (le_of_eq (sym grid.is)) (lt_of_le_of_lt sum_range.most (omega arith))),
   )
     where
       parts_pos : 0 < 2 ^ 48 * S
       parts_pos = mul-pos (lit< tt) S_pos
-
-      low : (s : ℕ) → 2 ^ 52 * (2 ^ 48 * s) ≤ (3 * 2 ^ 99 - 125 * 2 ^ 53) * s
-      low s = omega arith
-
-      high : (s : ℕ) → 0 < s → (3 * 2 ^ 99 + 125 * 2 ^ 53) * s < 2 ^ 53 * (2 ^ 48 * s)
-      high s h = omega arith
 
   -- its pattern ends in N
   sum_bits : to_bits binary64 (wide ⊕ t) ≡ 1069 * 2 ^ 52 + N
@@ -241,10 +205,7 @@ module _ (t : Float) (b : Bound S (124 * 2 ^ 53) t) where
       ∙ ap (λ (n : ℕ). 1069 * 2 ^ 52 + n) (ap (λ (n : ℕ). n / 2 ^ 1069) grid.is ∙ mul-div_cancel grid.parts (lit< tt))
 
   pub digits_fit : digits32 t < 2 ^ 64
-  digits_fit = subst (λ (n : ℕ). n + 16 < 2 ^ 64) (sym sum_bits) (go N N_range.1)
-    where
-      go : (n : ℕ) → n < 2 ^ 53 → 1069 * 2 ^ 52 + n + 16 < 2 ^ 64
-      go n h = omega arith
+  digits_fit = subst (λ (n : ℕ). n + 16 < 2 ^ 64) (sym sum_bits) (omega (arith, N_range.1))
 
   j : ℕ
   j = (N + 16) / 32
@@ -254,17 +215,11 @@ module _ (t : Float) (b : Bound S (124 * 2 ^ 53) t) where
 
   index_is : digits32 t % 32 ≡ i
   unfolding i
-  index_is = ap (λ (n : ℕ). (n + 16) % 32) sum_bits ∙ go N
-    where
-      go : (n : ℕ) → (1069 * 2 ^ 52 + n + 16) % 32 ≡ (n + 16) % 32
-      go n = omega arith
+  index_is = ap (λ (n : ℕ). (n + 16) % 32) sum_bits ∙ (omega arith)
 
   k_digits : digits32 t / 32 % 4096 ≡ j % 4096
   unfolding j
-  k_digits = ap (λ (n : ℕ). (n + 16) / 32 % 4096) sum_bits ∙ go N
-    where
-      go : (n : ℕ) → (1069 * 2 ^ 52 + n + 16) / 32 % 4096 ≡ (n + 16) / 32 % 4096
-      go n = omega arith
+  k_digits = ap (λ (n : ℕ). (n + 16) / 32 % 4096) sum_bits ∙ (omega arith)
 
   -- the nearest 32nd
   nearest_count : Count (2 ^ 48 * S) (N + 0) (0 + 3 * 2 ^ 51) (nearest32nd t)
@@ -275,13 +230,7 @@ module _ (t : Float) (b : Bound S (124 * 2 ^ 53) t) where
       go n h = (omega arith, omega arith)
 
   in_grid : plus (nearest32nd t) + 3 * 2 ^ 51 * (2 ^ 48 * S) ≡ less (nearest32nd t) + N * (2 ^ 48 * S)
-  in_grid = ap (λ (z : ℕ). plus (nearest32nd t) + z * (2 ^ 48 * S)) (sym (zero_and (3 * 2 ^ 51))) ∙ nearest_count.is ∙ ap (λ (z : ℕ). less (nearest32nd t) + z * (2 ^ 48 * S)) (and_zero N)
-    where
-      zero_and : (n : ℕ) → 0 + n ≡ n
-      zero_and n = omega arith
-
-      and_zero : (n : ℕ) → n + 0 ≡ n
-      and_zero n = omega arith
+  in_grid = ap (λ (z : ℕ). plus (nearest32nd t) + z * (2 ^ 48 * S)) (sym (omega arith)) ∙ nearest_count.is ∙ ap (λ (z : ℕ). less (nearest32nd t) + z * (2 ^ 48 * S)) (omega arith)
 
   nearest_bound : Bound S (125 * 2 ^ 53) (nearest32nd t)
   unfolding N
@@ -313,19 +262,13 @@ module _ (t : Float) (b : Bound S (124 * 2 ^ 53) t) where
       k_plus = k.units.plus_is ∙ above_times k.sign k.size per_one ∙ ap (λ (z : ℕ). above k.sign k.size * z) one_is;
       k_less = k.units.less_is ∙ under_times k.sign k.size per_one ∙ ap (λ (z : ℕ). under k.sign k.size * z) one_is;
       in_grid = in_grid;
-      split = sym (parts (N + 16));
+      split = sym (omega arith);
       some = subst (λ (z : ℕ). 0 < z) index_is some;
       few = mod-lt (N + 16) (lit< tt);
     }
-      where
-        parts : (n : ℕ) → 32 * (n / 32) + n % 32 ≡ n
-        parts n = omega arith
 
     part_is : Left t (nearest_whole t)
-    part_is = part_exact t b.number (le_trans b.size (go S per_one one_is))
-      where
-        go : (s w : ℕ) → w ≡ s * 2 ^ 53 → 124 * 2 ^ 53 * s ≤ 2 ^ 20 * w
-        go s w e = omega arith
+    part_is = part_exact t b.number (le_trans b.size (omega (arith, one_is)))
 
     i_inside : i < 33
     i_inside = omega (arith, beside.few)
@@ -355,19 +298,16 @@ module _ (t : Float) (b : Bound S (124 * 2 ^ 53) t) where
             subst (HasSign false)
             (sym (add_turned binary64 t (neg (nearest_whole t))
             ∙ sum_nought (neg (nearest_whole t)) t (neg_number k.units.number) b.number (λ y. absurd (lt_irrefl 0 (subst (λ (n : ℕ). 0 < n) y big)))
-            (ap (λ (n : ℕ). n + plus t) (neg_plus (nearest_whole t)) ∙ go _ _ (plus t) (less t) (plus (nearest_whole t)) (less (nearest_whole t)) z part_is.is ∙ ap (λ (n : ℕ). n + less t) (sym (neg_less (nearest_whole t))))))
+            (ap (λ (n : ℕ). n + plus t) (neg_plus (nearest_whole t)) ∙ (omega (arith, z, part_is.is)) ∙ ap (λ (n : ℕ). n + less t) (sym (neg_less (nearest_whole t))))))
             (round_has_sign binary64 false 0 per_one)
-          where
-            go : (v w p n a b : ℕ) → v + w ≡ 0 → v + n + a ≡ w + p + b → b + p ≡ a + n
-            go v w p n a b e d = omega arith
 
     pub one_step : OneStep t
     unfolding part_of
     one_step = record {
       index = index ∙ sym index_is;
       rest = rest;
-      below = is_true _ (le_of_units (t ⊖ nearest_whole t) (part_end switch_gap) part_is.number end.0 (up (plus (t ⊖ nearest_whole t)) (less (t ⊖ nearest_whole t)) (plus (part_end switch_gap)) (less (part_end switch_gap)) S end.1 end.2 o.0));
-      above = is_true _ (le_of_units (neg (part_end switch_gap)) (t ⊖ nearest_whole t) (neg_number end.0) part_is.number (down_to (plus (t ⊖ nearest_whole t)) (less (t ⊖ nearest_whole t)) (plus (neg (part_end switch_gap))) (less (neg (part_end switch_gap))) S (neg_plus (part_end switch_gap) ∙ end.2) (neg_less (part_end switch_gap) ∙ end.1) o.1));
+      below = is_true _ (le_of_units (t ⊖ nearest_whole t) (part_end switch_gap) part_is.number end.0 (omega (arith, end.1, end.2, o.0)));
+      above = is_true _ (le_of_units (neg (part_end switch_gap)) (t ⊖ nearest_whole t) (neg_number end.0) part_is.number (omega (arith, neg_plus (part_end switch_gap) ∙ end.2, neg_less (part_end switch_gap) ∙ end.1, o.1)));
       k = ap (λ (z : ℤ). lifted z % 4096) (lifted_value (nearest_whole t) k.sign k.size k.value k_most) ∙ last_digits k.sign k.size j k_most (k_is beside) ∙ sym k_digits;
     }
       where
@@ -377,17 +317,8 @@ module _ (t : Float) (b : Bound S (124 * 2 ^ 53) t) where
         end : Number (part_end switch_gap) × (plus (part_end switch_gap) ≡ (2 ^ 52 - 2 ^ 23) * S) × (less (part_end switch_gap) ≡ 0)
         end = unfold of_bits fits sub S in (record { held = tt; plain = tt }, refl, refl)
 
-        up : (v w p n s : ℕ) → p ≡ (2 ^ 52 - 2 ^ 23) * s → n ≡ 0 → v ≤ w + 31 * 2 ^ 47 * s → v + n ≤ p + w
-        up v w p n s e d h = omega arith
-
-        down_to : (v w p n s : ℕ) → p ≡ 0 → n ≡ (2 ^ 52 - 2 ^ 23) * s → w ≤ v + 31 * 2 ^ 47 * s → p + w ≤ v + n
-        down_to v w p n s e d h = omega arith
-
         k_most : k.size ≤ 124
-        k_most = le_of_mul-le-mul_right (le_trans (le_of_eq (sym (units_mag k.units))) (le_trans (whole_bound 124 b).size (le_of_eq (go S per_one one_is)))) per_one_pos
-          where
-            go : (s w : ℕ) → w ≡ s * 2 ^ 53 → 124 * 2 ^ 53 * s ≡ 124 * w
-            go s w e = omega arith
+        k_most = le_of_mul-le-mul_right (le_trans (le_of_eq (sym (units_mag k.units))) (le_trans (whole_bound 124 b).size (le_of_eq (omega (arith, one_is))))) per_one_pos
 
 -- ---- so the tests of the two steps pass, and the scaled pattern is theirs
 module _ (t : Float) (b : Bound S (124 * 2 ^ 53) t) (big : 0 < mag t) (some : 0 < digits32 t % 32) (clear : clear_of_index switch_gap (t ⊖ nearest32nd t) ≡ true) where

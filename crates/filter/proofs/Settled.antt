@@ -27,7 +27,7 @@ use Rattle.filter.proofs.Middle.{not_small, whole_within, switch_bounds}
 use Rattle.filter.proofs.Logarithm.{log_beside}
 use Rattle.filter.proofs.Times.{single, TimesBeside, times_beside}
 use Rattle.filter.proofs.Near.{near_right}
-use Rattle.filter.proofs.Edges.{one_pos, not_low, not_high, not_tiny, low_edge_lem, high_edge_lem, at_one, below_normals}
+use Rattle.filter.proofs.Edges.{not_low, not_high, not_tiny, low_edge_lem, high_edge_lem, at_one, below_normals}
 
 -- ---- between the edges: t' from 2^-300 to 124 in size
 module _ (t t' : Float) (b : TimesBeside t t') (m : Bound S (124 * 2 ^ 53) t') (some : 2 ^ 774 ≤ mag t') where

@@ -72,7 +72,7 @@ large M w Z g h = omega (arith, at_most_thrice M w Z h)
 room : (K M w Z : ℕ) → K ≤ 2 * M → w * 2 ^ 50 ≤ Z → M * 2 ^ 53 ≤ Z * 2 ^ 53 + M + w * 2 ^ 52 → 32 * (M * 2 ^ 53 + (K + M) * 2 ^ 40 + w * 2 ^ 93) ≤ 33 * Z * 2 ^ 53
 room K M w Z g h i =
     let m = at_most_thrice M w Z i in
-    (omega (arith, close (M * 2 ^ 53) M w Z h m i, both K M w Z g h m, le_trans (le_of_eq (apart w)) (mul-le-mul_right (2 ^ 43) h)))
+    omega (arith, close (M * 2 ^ 53) M w Z h m i, both K M w Z g h m, le_trans (le_of_eq (apart w)) (mul-le-mul_right (2 ^ 43) h))
   where
     close : (X M w Z : ℕ) → w * 2 ^ 50 ≤ Z → M ≤ 2 * Z + w → X ≤ Z * 2 ^ 53 + M + w * 2 ^ 52 → X ≤ Z * 2 ^ 53 + 8 * Z
     close X M w Z g h i = over X (Z * 2 ^ 53) M (w * 2 ^ 52) Z (small w Z g) h i

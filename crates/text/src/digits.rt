@@ -19,8 +19,8 @@ pub fn places(n: u32) -> usize
     n.checked_ilog10().unwrap_or(0) as usize + 1
 }
 
-// Fills `out` with the last digits of n in a base. Its places are counted: after `iter_mut().rev()` a
-// proof knows nothing of what was written.
+// Fills `out` with the last digits of n in a base. Its places are counted, since of `iter_mut().rev()` a
+// proof does not know what it wrote.
 #[tactic(auto, using(crate::proofs::Put::digit_steps))]
 pub(crate) fn fill_digits(n: u32, base: u32, out: &mut [u8])
     requires base_above_one { 1 < base }

@@ -18,14 +18,23 @@ pub trait Text {
         ensures out_after { out.new ≡ put out.old at (bytes self) };
 }
 
-impl Text for &str {
+// Bytes as they are.
+impl Text for &[u8] {
     ghost bytes = { λ s. s.now };
 
     #[tactic(auto, using(crate::proofs::Put::put_part))]
     fn put(self, out: &mut [u8], at: usize) -> usize {
         let end = at + self.len();
-        out[at..end].copy_from_slice(self.as_bytes());
+        out[at..end].copy_from_slice(self);
         end
+    }
+}
+
+impl Text for &str {
+    ghost bytes = { λ s. s.now };
+
+    fn put(self, out: &mut [u8], at: usize) -> usize {
+        self.as_bytes().put(out, at)
     }
 }
 

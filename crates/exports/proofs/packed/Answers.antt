@@ -1,11 +1,11 @@
--- `fade_compoundf` meets its contract: the route's tag is its number. Assumes nothing.
+-- `packed` meets its contract: the route's tag is its number. Assumes nothing.
 use Rattle.std.proofs.Common.{◌≡◌, refl}
 use denote.Enum.Declared.{tag_of}
 use Rattle.compound.specs.contracts.Route.{the_type}
 use Rattle.compound.specs.declared.Route.{Route}
 use Rattle.compound.specs.declared.Route.TheVariants.{Rule, Whole, Edge, Fast, Slow}
 use Rattle.exports.specs.Packed.{number, packed}
-use Rattle.exports.proofs.fade_compoundf.Goals as goal
+use Rattle.exports.proofs.packed.Goals as goal
 
 tag : (r : Route) → tag_of the_type r ≡ number r
 unfolding number
@@ -17,4 +17,4 @@ tag Slow = refl
 
 pub returns : goal.returns
 unfolding packed
-returns c = cc (tag c.route-via.result)
+returns c = cc (tag c.args.via)
