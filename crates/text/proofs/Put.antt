@@ -1,14 +1,13 @@
 -- Laws of `put`, text put at a place of a list: the length stays, text after text is one text, and a stored byte is text of one byte. Assumes nothing.
 use mathlib.Core.Path.{◌≡◌, refl, sym, ap, ◌∙◌}
 use Prim.Native.Nat.{ℕ, zero, suc, ◌+◌, ◌-◌, ◌/◌, ◌%◌, ◌≤◌, ◌<◌}
-use native.Mathlib.Numerals.{add-one}
-use native.Mathlib.Nat.{add-zero}
 use native.Mathlib.Omega.{arith}
-use mathlib.Core.List.{List, [], ◌∷◌, ◌++◌, append_assoc, append-nil}
-use lib.ListN.{length, get_or, take, drop, set, length-append, length-drop, length-take, length-set, take-append-drop, drop_of_length-le}
-use lib.Seq.{length-take-le, set_split, take_at, drop_at, drop-drop, drop-cons}
+use mathlib.Core.List.{List, [], ◌∷◌, ◌++◌, append_assoc}
+use lib.ListN.{length, get_or, take, drop, set, length-append, length-drop, length-take, length-set}
+use lib.Seq.{length-take-le, drop_at, drop-drop}
 use borrow.Rule.Slice.PartMut.{put_mid}
 use mathlib.Core.Bool.{Bool, true, false, not, cond}
+use Rattle.std.proofs.lemmas.Grind.{common_steps}
 use Rattle.std.specs.Bool.{then_some}
 use Rattle.std.specs.List.{flat_map}
 use Rattle.text.specs.Bytes.{put, if_some}
@@ -22,20 +21,17 @@ length_upto out at text h = length-append (take at out) text ∙ ap (λ (k : ℕ
 -- text put within a list leaves its length
 pub length_put : (out : List ℕ) (at : ℕ) (text : List ℕ) → at + length text ≤ length out → length (put out at text) ≡ length out
 unfolding put
-length_put out at text h =
-    let front : length (take at out ++ text) ≡ at + length text = length_upto out at text (omega arith) in
-    let rest : length (drop (at + length text) out) ≡ length out - (at + length text) = length-drop (at + length text) out in
-    length-append (take at out ++ text) (drop (at + length text) out) ∙ omega arith
+length_put out at text h = grind (arith, common_steps)
 
 -- no text changes nothing
 pub put_nothing : (out : List ℕ) (at : ℕ) → put out at [] ≡ out
 unfolding put
-put_nothing out at = rw (append-nil, add-zero) (take-append-drop at out)
+put_nothing out at = grind (arith, common_steps)
 
 -- what stands before the end of a text that is put, and what stands after it
 take_put : (out : List ℕ) (at : ℕ) (text : List ℕ) → at ≤ length out → take (at + length text) (put out at text) ≡ take at out ++ text
 unfolding put
-take_put out at text h = take_at (take at out ++ text) (drop (at + length text) out) (at + length text) (length_upto out at text h)
+take_put out at text h = grind (arith, common_steps)
 
 drop_put : (out : List ℕ) (at : ℕ) (text : List ℕ) (n : ℕ) → at ≤ length out → drop (at + length text + n) (put out at text) ≡ drop (at + length text + n) out
 unfolding put
@@ -62,7 +58,7 @@ pair_put out middle last at next a b h e f g = g ∙ rw (e, f) (put_put out at a
 -- a list of texts: those from the place i on, and the list after the one there
 module _ {A : Type 0} (text : A → List ℕ) (all : List A) (i : ℕ) where
   ahead : (x : A) → i < length all → text (get_or all i x) ++ flat_map text (drop (i + 1) all) ≡ flat_map text (drop i all)
-  ahead x h = rw (drop-cons all i x h, add-one) refl
+  ahead x h = grind (arith, common_steps)
 
   pub next_place : (x : A) (at next n : ℕ) → i < length all → at + length (flat_map text (drop i all)) ≡ n
       → next ≡ at + length (text (get_or all i x)) → next + length (flat_map text (drop (i + 1) all)) ≡ n
@@ -78,17 +74,17 @@ module _ {A : Type 0} (text : A → List ℕ) (all : List A) (i : ℕ) where
       ∙ ap (put out at) (ahead x h) ∙ e
 
   pub none_next : (out l : List ℕ) (at : ℕ) → length all ≤ i → put out at (flat_map text (drop i all)) ≡ l → out ≡ l
-  none_next out l at h e = sym (put_nothing out at) ∙ ap (λ (k : List A). put out at (flat_map text k)) (sym (drop_of_length-le all {i = i} h)) ∙ e
+  none_next out l at h e =
+      let f : [] ≡ flat_map text (drop i all) = grind (arith, common_steps) in
+      sym (put_nothing out at) ∙ ap (put out at) f ∙ e
 
 -- a part of a list that is a text, from a place to the end of the text there
 pub put_part : (out : List ℕ) (at end : ℕ) (part text : List ℕ) → part ≡ text → end ≡ at + length text → put_mid at (end - at) out part ≡ put out at text
 unfolding put
-put_part out at end part text e f =
-    let k : end - at ≡ length text = omega arith in
-    rw (e, k, drop-drop (length text) at out) (sym (append_assoc (take at out) text (drop (at + length text) out)))
+put_part out at end part text e f = grind (arith, common_steps)
 
 -- digits in as many places as the part has
-pub digits_put : (out : List ℕ) (at end base k n : ℕ) (part : List ℕ) → at + k ≤ length out → end ≡ at + k
+digits_put : (out : List ℕ) (at end base k n : ℕ) (part : List ℕ) → at + k ≤ length out → end ≡ at + k
     → part ≡ digits base (length (take (end - at) (drop at out))) n → put_mid at (end - at) out part ≡ put out at (digits base k n)
 digits_put out at end base k n part h f e =
     let l : length (take (end - at) (drop at out)) ≡ k = omega (arith, length-take (end - at) (drop at out), length-drop at out) in
@@ -106,9 +102,8 @@ unfolding hex
 hex_put out at end n part h f g = digits_put out at end 16 8 n part (omega (arith, length_hex n)) f g
 
 -- what stands from a stored byte on
-pub drop_set : (out : List ℕ) (i b : ℕ) → i < length out → drop i (set out i b) ≡ b ∷ drop (suc i) out
-drop_set out i b h =
-    ap (λ (l : List ℕ). drop i l) (set_split out i b h) ∙ drop_at (take i out) (b ∷ drop (suc i) out) i (length-take-le i out (omega arith))
+drop_set : (out : List ℕ) (i b : ℕ) → i < length out → drop i (set out i b) ≡ b ∷ drop (suc i) out
+drop_set out i b h = grind (arith, common_steps)
 
 -- a text that is there by a test
 pub by_test : {A : Type 0} (bytes : A → List ℕ) (t : Bool) (text : A) → if_some bytes (then_some (not t) text) ≡ cond t [] (bytes text)
