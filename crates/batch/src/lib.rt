@@ -72,7 +72,7 @@ fn try_take(state: State, piece: &[u8], out: &mut [u8]) -> Result<Taken, Refused
     Ok(take_piece(reader, piece, out))
 }
 
-// The number of a feed's answer: 5 to 7 for a refusal, 0 for an accepted feed.
+// The number of a feed's answer: 5 to 7 for a refusal, 0 for an accepted feed. Rust and C are handed it.
 pub fn feed_number(verdict: Result<usize, Refused>) -> u32
     ensures { result ≡ number verdict }
 {
@@ -96,7 +96,8 @@ pub fn close(state: State) -> Result<(), NotClosed>
     }
 }
 
-// The number of a close's answer: 5 or 8 for a refusal, 0 for an accepted close.
+// The number of a close's answer: 5 or 8 for a refusal, 0 for an accepted close. Rust and C are handed
+// it.
 pub fn close_number(closed: Result<(), NotClosed>) -> u32
     ensures { result ≡ close_number closed }
 {

@@ -42,7 +42,8 @@ impl Route {
     }
 }
 
-// The answer: one of five routes, each carrying its f32.
+// The answer: one of five routes, each carrying its f32. That it is an enum of five cases is a rule of
+// the project.
 #[derive(Clone, Copy)]
 pub enum Answer {
     Rule(f32),

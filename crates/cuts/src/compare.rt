@@ -23,7 +23,8 @@ impl fmt::Display for Differs {
     }
 }
 
-// What a feed must come to: its number, the state after it, and the text that it writes.
+// What a feed must come to: its number, the state after it, and the text that it writes. A number and no
+// case of the reader's own enum, so that the numbers are checked too.
 #[derive(Clone, Copy)]
 pub(crate) struct Wanted<'a> {
     number: u32,

@@ -57,7 +57,7 @@ fn check_end(seen: &mut Seen, state: State) {
     seen.closed(state, number);
 }
 
-// Cuts at every place, before the first byte and after the last too, and closes there.
+// Cuts at every place, which is what is checked, before the first byte and after the last too, and closes there.
 pub(crate) fn check_places(batch: &Batch) -> Seen {
     let mut seen = Seen::default();
     let end = batch.input.len();

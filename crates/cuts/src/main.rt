@@ -31,7 +31,7 @@ pub const ROOM: usize = 2048;
 pub const MARK: u8 = 0xaa;
 
 // Reads until the array is full, the input ends or a read fails, and answers how many bytes it put at
-// the front.
+// the front. Nothing is counted here but what was read: the library's `read_to_end` needs a heap.
 fn read_full(input: &mut impl Read, buf: &mut [u8]) -> usize
     ensures { result ≤ length buf.new }
 {

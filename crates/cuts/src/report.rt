@@ -54,7 +54,8 @@ impl Seen {
         self.wrong = self.wrong.saturating_add(1);
     }
 
-    // Counts a check of feed, and notes what it found.
+    // Counts a check of feed, and notes what it found. The next counts in another field, which would be
+    // a parameter otherwise.
     pub(crate) fn note_feed(&mut self, found: Result<(), Differs>) {
         self.note(found);
         self.feeds = self.feeds.saturating_add(1);
