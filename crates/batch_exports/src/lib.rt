@@ -1,7 +1,7 @@
 // The reader of batch lines for Rust and C, under the C calling convention: numbers pass as
 // themselves, a slice as a pointer and a length, a lent array as a pointer to its first byte, and the
 // reader's state by value, as a C struct. Each is the function of the same name in `batch`, with its
-// answer as numbers where that is an enum. None has a `requires`.
+// answer as numbers where that is a Result. None has a `requires`.
 #![tactic(auto)]
 
 ghost use Rattle.std.specs.Prelude.{◌≡◌, ◌++◌, length};
@@ -55,7 +55,7 @@ pub extern "C" fn fade_close(state: State) -> u32
 }
 
 // Writes the line of totals, and after it the line of an end's number where that is not 0, to the
-// front of `out`, and answers how many bytes these are.
+// front of `out`, and answers how many bytes these are. The number is one, since C has no Option.
 #[unsafe(no_mangle)]
 pub extern "C" fn fade_write_totals(state: State, end: u32, out: &mut [u8; TOTALS]) -> usize
     ensures value { result ≡ length (totals state ++ end_line end) }

@@ -57,7 +57,8 @@ fn check_end(seen: &mut Seen, state: State) {
     seen.closed(state, number);
 }
 
-// Cuts at every place, which is what is checked, before the first byte and after the last too, and closes there.
+// Cuts at every place, before the first byte and after the last too, and closes there. The places are
+// counted, since they are what is checked.
 pub(crate) fn check_places(batch: &Batch) -> Seen {
     let mut seen = Seen::default();
     let end = batch.input.len();
@@ -70,7 +71,7 @@ pub(crate) fn check_places(batch: &Batch) -> Seen {
     seen
 }
 
-// Feeds byte by byte.
+// Feeds byte by byte, by place too.
 pub(crate) fn check_bytes(batch: &Batch) -> Seen {
     let mut seen = Seen::default();
     for place in 0..batch.input.len() {

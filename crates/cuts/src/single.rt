@@ -41,12 +41,12 @@ impl Seen {
         self.feed(given, &Wanted::taken(after, text));
     }
 
-    // Feeds a piece that must be refused.
+    // Feeds a piece that must be refused, with the number of the refusal.
     pub(crate) fn refused(&mut self, given: Given, number: u32) {
         self.feed(given, &Wanted::refused(given.state, number));
     }
 
-    // Closes a state.
+    // Closes a state, which must have this number: the numbers themselves are checked.
     pub(crate) fn closed(&mut self, state: State, number: u32) {
         self.note_close(close_differs(state, number));
     }

@@ -23,7 +23,7 @@ const PIECE: usize = 8192;
 // some more for each line feed.
 const ANSWERS: usize = OVER_LONG as usize + PIECE + MORE * PIECE;
 
-// The most reads: no run comes to so many.
+// The most reads: no run comes to so many. A loop has to end, so they are counted.
 const READS: u64 = 0xffff_ffff_ffff_ffff;
 
 // How the reading ended, with the number that is printed after the totals; for 0 none is.

@@ -9,11 +9,11 @@ use std::io;
 use std::io::{ErrorKind, Read};
 use std::num::f32_to_bits_with_nan;
 
-// How many lines are read at most.
+// How many lines are read at most. A loop has to end, so they are counted.
 const LINES: u32 = 100_000;
 
 // The value of a hexadecimal digit; another byte counts as 0. By hand, since the library's `to_digit`
-// takes capital letters too.
+// takes capital letters too, and `from_hex` of `text` refuses all eight for one that is no digit.
 fn digit(b: u8) -> u32
     ensures { result < 16 }
 {

@@ -22,7 +22,7 @@ pub fn places(n: u32) -> usize
 // Fills `out` with the last digits of n in a base. Its places are counted, since of `iter_mut().rev()` a
 // proof does not know what it wrote.
 #[tactic(auto, using(crate::proofs::Put::digit_steps))]
-pub(crate) fn fill_digits(n: u32, base: u32, out: &mut [u8])
+pub fn fill_digits(n: u32, base: u32, out: &mut [u8])
     requires base_above_one { 1 < base }
     requires base_most { base ≤ 16 }
     ensures { out.new ≡ Digits·digits base (length out.old) n }

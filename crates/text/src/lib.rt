@@ -6,6 +6,6 @@ mod digits;
 mod hex;
 mod write;
 
-pub use digits::places;
+pub use digits::{fill_digits, places};
 pub use hex::from_hex;
 pub use write::{Decimal, Hex, Text};
