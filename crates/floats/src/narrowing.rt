@@ -4,6 +4,10 @@ ghost use Rattle.std.specs.Prelude.{◌≡◌, ◌≤◌, not, T, from_bits, is_
 ghost use Rattle.std.specs.Float.{binary32, binary64};
 ghost use Rattle.floats.specs.Narrowing.{narrowed, NearestF32Ends};
 
+// The pattern of 2^-97. The last place of an f64 from there to 2^-96 is 2^-149, and so is that of an f32
+// below 2^-126: a sum with 2^-97 is rounded where the f32 is, and its pattern has the f32's over this.
+pub const SUBNORMAL_OFFSET: u64 = 0x39e0_0000_0000_0000;
+
 // The nearest f32, ties to even, with subnormals, overflow to infinity and the sign of zero kept. A
 // NaN gives the NaN. `std::num::nearest_f64_to_f32_with_nan` has the same values, but takes three times
 // as long: it finds the digits by shifts, with branches on the size.
@@ -17,7 +21,9 @@ pub fn narrow(x: f64) -> f32
     }
 }
 
-// The same of an x that is no NaN, with no branch: the size of x could not be foreseen.
+// The same of an x that is no NaN, with no branch: the size of x could not be foreseen. That x is no NaN
+// is asked for here and in three functions of other crates, and no type says it: it would have to be made
+// anew of the result of each operation on floats.
 pub fn narrow_number(x: f64) -> f32
     requires { T (not (is_nan x)) }
     ensures { result ≡ narrowed x }
@@ -34,14 +40,12 @@ fn narrow_magnitude(m: u64) -> u64
     requires { m ≤ 0x7ff0_0000_0000_0000 }
     ensures { result ≡ to_bits binary32 (narrowed (from_bits binary64 m)) }
 {
-    // Below 2^-126 the last place of an f32 is 2^-149. That of an f64 from 2^-97 to 2^-96 is the
-    // same, so the sum with 2^-97 is rounded where the f32 is.
-    let sum = f64::from_bits(m) + f64::from_bits(0x39e0_0000_0000_0000);
-    let low = std::num::wrapping_sub_u64(f64::to_bits(sum), 0x39e0_0000_0000_0000);
+    let sum = f64::from_bits(m) + f64::from_bits(SUBNORMAL_OFFSET);
+    let low = f64::to_bits(sum).wrapping_sub(SUBNORMAL_OFFSET);
     // Of the 52 digits 23 are kept: add half a last place less one, and one more if the last kept
     // digit is odd, and cut. A carry runs into the exponent's field, which is less by 896.
     let kept = (m + 0xfff_ffff + m / 0x2000_0000 % 2) / 0x2000_0000;
-    let high = std::num::wrapping_sub_u64(kept, 0x1_c000_0000);
+    let high = kept.wrapping_sub(0x1_c000_0000);
     if m < 0x3810_0000_0000_0000 {
         return low;
     }

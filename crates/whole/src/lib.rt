@@ -12,14 +12,18 @@ use floats::common::is_integerf;
 use floats::narrowing::narrow_number;
 
 // Whether x and y take this route, by their patterns: y is whole, at most 16 in size, and x is below
-// 2^64 in size. The tests are counted, so that there is one branch on all three.
+// 2^64 in size. The three tests are joined without a branch, so that there is one on all of them.
+#[tactic(auto, using(crate::proofs::Exponent::whole_of_patterns))]
 pub fn is_whole(nx: u32, ny: u32) -> bool
     ensures { result ≡ spec.is_whole (from_bits binary32 nx) (from_bits binary32 ny) }
 {
     let small_y = ny % 0x8000_0000 <= 0x4180_0000;
-    let small_x = nx % 0x8000_0000 <= 0x5f7f_ffff;
-    is_integerf(ny) as u32 + small_y as u32 + small_x as u32 == 3
+    let small_x = nx % 0x8000_0000 < 0x5f80_0000;
+    is_integerf(ny) & small_y & small_x
 }
+
+// The pattern of 1.
+const ONE: u64 = 0x3ff0_0000_0000_0000;
 
 // s where n is odd, and 1 where it is even. The patterns are reckoned with: of an `if` the compiler
 // makes a branch on the bits of n, which could not be foreseen.
@@ -27,9 +31,9 @@ fn factor(s: f64, n: u32) -> f64
     requires { T (not (is_nan s)) }
     ensures { result ≡ (if nat_eq (n % 2) 1 then s else one) }
 {
-    let more = std::num::wrapping_sub_u64(f64::to_bits(s), 0x3ff0_0000_0000_0000);
+    let more = f64::to_bits(s).wrapping_sub(ONE);
     let chosen = more * (n % 2) as u64;
-    f64::from_bits(std::num::wrapping_add_u64(0x3ff0_0000_0000_0000, chosen))
+    f64::from_bits(ONE.wrapping_add(chosen))
 }
 
 // s to the n-th power, for n up to 16: s is squared along the bits of n. The source goes on while a

@@ -1,6 +1,8 @@
 -- `narrow_magnitude` meets its contract: the pattern that is taken is `low_pattern` or `normal_magnitude`, where the difference does not wrap. Assumes nothing.
-use Rattle.std.proofs.Common.{◌≡◌, ℕ, ◌+◌, ◌-◌, ◌*◌, ◌/◌, ◌%◌, ◌^◌, ◌<◌, ◌≤◌, min, false, not, T, negsuc, sym, refl, ap, ◌∙◌, subst, arith, rules}
+use Rattle.std.proofs.Common.{◌≡◌, ℕ, ◌+◌, ◌-◌, ◌*◌, ◌/◌, ◌%◌, ◌^◌, ◌<◌, ◌≤◌, min, false, not, T, negsuc, sym, refl, ap, ◌∙◌, subst, arith}
 use lib.Ieee.{Float, fin, binary32, binary64, add, is_nan, nan_bits, to_bits, of_bits}
+use lib.Ieee.Bits.{to_bits-lt}
+use lib.Ieee.Fits.{add-fits}
 use Rattle.floats.specs.Narrowing.{narrowed}
 use Rattle.floats.proofs.Laws.Compare.{number_of_bits}
 use Rattle.floats.proofs.Laws.Nan.{number_of_below}
@@ -22,8 +24,8 @@ sum_number m h =
     (add_number binary64 (of_bits binary64 m) false 1 (negsuc 96) (number_of_bits binary64 m (within m h)))
 
 -- a difference that does not wrap
-difference : (r a b : ℕ) → r < 2 ^ 64 → b ≤ a → (r + b) % 2 ^ 64 ≡ a → r ≡ a - b
-difference r a b h l e = omega (arith, h, l, e)
+difference : (a b k : ℕ) → k + b ≡ 2 ^ 64 → a < 2 ^ 64 → b ≤ a → (a + k) % 2 ^ 64 ≡ a - b
+difference a b k e h l = omega (arith, e, h, l)
 
 -- the digits that are kept, and that they reach the exponent's field
 abbrev kept : ℕ → ℕ
@@ -32,13 +34,17 @@ kept m = (m + 0xfff_ffff + m / 0x2000_0000 % 2) / 0x2000_0000
 reached : (m : ℕ) → 0x3810_0000_0000_0000 ≤ m → 0x1_c000_0000 ≤ kept m
 reached m h = omega (arith, h)
 
-low_is : (m r : ℕ) → m < 897 * 2 ^ 52 → r < 2 ^ 64 → (r + 0x39e0000000000000) % 2 ^ 64 ≡ to_bits binary64 (add binary64 (of_bits binary64 m) (of_bits binary64 0x39e0000000000000))
-    → r ≡ to_bits binary32 (narrowed (of_bits binary64 m))
-low_is m r h l e = difference r _ _ l (low_sum_over m (low_finite m h) h) e ∙ sym (low_pattern m (low_finite m h) h)
+kept_small : (m : ℕ) → m ≤ 0x7ff0000000000000 → kept m < 2 ^ 64
+kept_small m h = omega (arith, h)
 
-module _ (m r : ℕ) (small : m ≤ 0x7ff0000000000000) (large : 0x3810_0000_0000_0000 ≤ m) (l : r < 2 ^ 64) (e : (r + 0x1_c000_0000) % 2 ^ 64 ≡ kept m) where
-  high_is : min r 0x7f80_0000 ≡ to_bits binary32 (narrowed (of_bits binary64 m))
-  high_is = ap (λ (p : ℕ). min p 0x7f80_0000) (difference r (kept m) 0x1_c000_0000 l (reached m large) e) ∙ sym (normal_magnitude m small large)
+abbrev sum : ℕ → ℕ
+sum m = to_bits binary64 (add binary64 (of_bits binary64 m) (of_bits binary64 0x39e0000000000000))
+
+low_is : (m : ℕ) → m < 897 * 2 ^ 52 → (sum m + 0xc620000000000000) % 2 ^ 64 ≡ to_bits binary32 (narrowed (of_bits binary64 m))
+low_is m h = difference (sum m) 0x39e0000000000000 _ refl (to_bits-lt binary64 _ (add-fits binary64 _ _)) (low_sum_over m (low_finite m h) h) ∙ sym (low_pattern m (low_finite m h) h)
+
+high_is : (m : ℕ) → m ≤ 0x7ff0000000000000 → 0x3810_0000_0000_0000 ≤ m → min ((kept m + 0xfffffffe40000000) % 2 ^ 64) 0x7f80_0000 ≡ to_bits binary32 (narrowed (of_bits binary64 m))
+high_is m small large = ap (λ (p : ℕ). min p 0x7f80_0000) (difference (kept m) 0x1_c000_0000 _ refl (kept_small m small) (reached m large)) ∙ sym (normal_magnitude m small large)
 
 pub float_from_bits-sum : goal.float_from_bits-sum
 float_from_bits-sum c = number_of_below binary64 c.args.m (within c.args.m c.requires)
@@ -46,11 +52,11 @@ float_from_bits-sum c = number_of_below binary64 c.args.m (within c.args.m c.req
 pub float_from_bits-sum-2 : goal.float_from_bits-sum-2
 float_from_bits-sum-2 c = two_to_minus_97.1
 
-pub float_to_bits-sum : goal.float_to_bits-sum
-float_to_bits-sum c = sum_number c.args.m c.requires
+pub float_to_bits-low : goal.float_to_bits-low
+float_to_bits-low c = sum_number c.args.m c.requires
 
 pub returns-then-m-lt4039728865751334912 : goal.returns-then-m-lt4039728865751334912
-returns-then-m-lt4039728865751334912 c = low_is c.args.m _ c.if-m-lt4039728865751334912.true (search rules) c.wrapping_sub_u64-low.ensures.value
+returns-then-m-lt4039728865751334912 c = low_is c.args.m c.if-m-lt4039728865751334912.true
 
 pub returns : goal.returns
-returns c = c.min.ensures ∙ high_is c.args.m _ c.requires c.if-m-lt4039728865751334912.false (search rules) c.wrapping_sub_u64-high.ensures.value
+returns c = c.min.ensures ∙ high_is c.args.m c.requires c.if-m-lt4039728865751334912.false
