@@ -13,10 +13,10 @@ use Rattle.floats.proofs.Laws.Nan.{number_of_below}
 use Rattle.floats.proofs.Laws.Order.{clear, pattern_mono, values_of_patterns}
 use Rattle.floats.proofs.Laws.Sums.{add_mono, add_mono_left, whole_distance, SizeAtMost, size_finite, whole_at_most}
 use Rattle.floats.proofs.Laws.Cast.{part_at_most, signed_cast, whole_twice, whole_fits}
-use Rattle.fast_path.specs.Scaling.{scaled, biased, exponent_of, Within}
+use Rattle.fast_path.specs.Scaling.{scaled, biased, exponent_of}
 use Rattle.fast_path.specs.Fast.{inverse_index, HasInverse, power_index, HasPower}
 pub use Rattle.fast_path.proofs.Field.{biased_below, biased_away}
-use Rattle.fast_path.proofs.Lifted.{within_read}
+use Rattle.fast_path.proofs.Lifted.{within_read, Within}
 
 -- ---- a value between two others
 pub between_finite : (lo x hi : Float) → T (finite lo) → T (finite hi) → T (le lo x) → T (le x hi) → T (finite x)

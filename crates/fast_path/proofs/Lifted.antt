@@ -3,7 +3,12 @@
 use Rattle.std.proofs.Common.{◌≡◌, ℕ, suc, ◌+◌, ◌-◌, ◌*◌, ◌%◌, ◌<◌, ◌≤◌, ℤ, pos, negsuc, lt_of_le_of_lt, arith, lit<, w64, to_z, of_z}
 use lib.Signed.{mag}
 use mir.ValLaws.{to_z-of_z}
-use Rattle.fast_path.specs.Scaling.{scaled, Within}
+use Rattle.fast_path.specs.Scaling.{scaled}
+
+-- k is from -b to b
+abbrev pub Within : ℕ → ℤ → Type 0
+Within b (pos n) = n ≤ b
+Within b (negsuc n) = n < b
 
 -- k + 4096
 abbrev pub lifted : ℤ → ℕ

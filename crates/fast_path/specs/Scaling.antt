@@ -1,6 +1,6 @@
 -- Document 01, "Table path": "the power of two is added to the pattern's exponent field, wrapping"; and what the source takes from that
 -- field before it takes a logarithm.
-use Rattle.std.specs.Prelude.{ℕ, suc, ◌+◌, ◌-◌, ◌*◌, ◌/◌, ◌%◌, ◌^◌, ◌<◌, ◌≤◌, cond, ℤ, pos, negsuc, nat_le}
+use Rattle.std.specs.Prelude.{ℕ, suc, ◌+◌, ◌-◌, ◌*◌, ◌/◌, ◌%◌, ◌^◌, cond, ℤ, pos, negsuc, nat_le}
 use Rattle.std.specs.Float.Ieee.{minus}
 
 -- v + k×2^52, wrapping at 2^64. To take 2^52 away is to add 2^64 - 2^52.
@@ -15,8 +15,3 @@ biased v = v / 2 ^ 52 + cond (nat_le 0x6a09e667f3bcd (v % 2 ^ 52)) 1 0
 -- the source's e: 2^e/sqrt(2) < u < 2^e×sqrt(2) for the u of the pattern v
 unfoldable pub exponent_of : ℕ → ℤ
 exponent_of v = minus (biased v) 0x3ff
-
--- k is from -b to b
-abbrev pub Within : ℕ → ℤ → Type 0
-Within b (pos n) = n ≤ b
-Within b (negsuc n) = n < b

@@ -3,16 +3,14 @@ ghost use Rattle.std.specs.Prelude.{◌≡◌, ◌<◌, T, to_bits, Float};
 ghost use Rattle.std.specs.Float.{binary64};
 ghost use Rattle.std.specs.Float.Ieee.{lt};
 ghost use Rattle.floats.specs.Operations.{◌⊗◌};
-ghost use Rattle.tables.specs.Tables.{entry, pair_entry, log2p1_compoundf_inv, compoundf_exp2_u};
+ghost use Rattle.tables.specs.Tables.{pair_entry, compoundf_exp2_u};
 ghost use Rattle.special.specs.Special.{minus_one};
 ghost use Rattle.fast_path.specs.Fast as spec;
 
-use crate::inverse_index;
+use crate::inverse::WithInverse;
 use crate::scaling::{exponent, reduced};
 use std::num::f64_to_bits_with_nan;
-use tables::{
-    CompoundfExp2U, Log2p1CompoundfInv, Log2p1CompoundfLog2Inv, PairTable, PolyP, PolyQ, Table,
-};
+use tables::{CompoundfExp2U, Log2p1CompoundfLog2Inv, PairTable, PolyP, PolyQ, Table};
 
 // A way to work out a * b + c.
 pub trait MulAdd {
@@ -22,10 +20,8 @@ pub trait MulAdd {
         ensures { result ≡ mul_add a b c };
 
     // r * t - 1 for the inverse r of t.
-    fn times_minus_one(r: f64, t: f64) -> f64
-        requires has_inverse { spec.HasInverse t }
-        requires r_is_inverse { r ≡ entry log2p1_compoundf_inv (spec.inverse_index t) }
-        ensures { result ≡ mul_add r t minus_one };
+    fn times_minus_one(v: WithInverse) -> f64
+        ensures { result ≡ mul_add v.r v.t minus_one };
 }
 
 // What z is multiplied by near log2(1 + z), for |z| <= 1/64.
@@ -52,13 +48,11 @@ pub fn log2p1<M: MulAdd>(x: f64) -> f64
     let u = 1.0 + x;
     let v = f64::to_bits(u);
     // u = 2^e * t with 1/sqrt(2) < t < sqrt(2), thus log2(u) = e + log2(t)
-    let t = f64::from_bits(reduced(v));
-    let i = inverse_index(t);
-    let r = Log2p1CompoundfInv::at(i);
-    let z = M::times_minus_one(r, t);
+    let t = WithInverse::of(f64::from_bits(reduced(v)));
+    let z = M::times_minus_one(t);
     // log2(t) is -log2(r) + log2(r * t)
     let p = z * factor::<M>(z);
-    let log2_inv = Log2p1CompoundfLog2Inv::at(i);
+    let log2_inv = Log2p1CompoundfLog2Inv::at(t.index);
     exponent(v) + (log2_inv.hi + p)
 }
 

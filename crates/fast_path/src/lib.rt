@@ -8,11 +8,11 @@ ghost use Rattle.std.specs.Float.{fin};
 ghost use Rattle.std.specs.Float.Ieee.{lt};
 ghost use Rattle.floats.specs.Operations.{f64};
 ghost use Rattle.double_double.specs.DoubleDouble.{dd_fmla};
-ghost use Rattle.tables.specs.Tables.{entry, log2p1_compoundf_inv};
 ghost use Rattle.special.specs.Special.{minus_one};
 ghost use Rattle.fast_path.specs.Fast as spec;
 
 use crate::evaluation::{MulAdd, log2p1, power};
+use crate::inverse::WithInverse;
 use crate::scaling::scaled;
 use floats::narrowing::narrow;
 use floats::rounding::round_ties_even;
@@ -21,6 +21,7 @@ use std::num::f64_from_bits_with_nan;
 use tables::{CompoundfExp2T, Table};
 
 pub mod evaluation;
+pub mod inverse;
 pub mod scaling;
 
 // The index of the inverse of t.
@@ -33,20 +34,6 @@ pub fn inverse_index(t: f64) -> u64
     f64::to_bits(t + 2.0) / 0x2000_0000_0000 - 0x2002d
 }
 
-// r * t - 1 for the inverse r of t, as `dd_fmla` has it. r has at most nine digits, so that its
-// products with the two parts of t are exact.
-#[tactic(auto, using(crate::proofs::MinusOne::less_one))]
-pub fn times_minus_one(r: f64, t: f64) -> f64
-    requires has_inverse { spec.HasInverse t }
-    requires r_is_inverse { r ≡ entry log2p1_compoundf_inv (spec.inverse_index t) }
-    ensures { result ≡ dd_fmla r t minus_one }
-{
-    // 2^26, so that the sum is rounded to a whole number of 2^-26
-    let hi = t + 67108864.0 - 67108864.0;
-    let lo = t - hi;
-    r * lo + (r * hi - 1.0)
-}
-
 // a * b + c as `dd_fmla` has it.
 pub struct DdFmla;
 
@@ -57,8 +44,14 @@ impl MulAdd for DdFmla {
         fmla(a, b, c)
     }
 
-    fn times_minus_one(r: f64, t: f64) -> f64 {
-        times_minus_one(r, t)
+    // r has at most nine digits, so that its products with the two parts of t are exact.
+    #[tactic(auto, using(crate::proofs::MinusOne::less_one))]
+    fn times_minus_one(v: WithInverse) -> f64 {
+        let (r, t) = (v.r, v.t);
+        // 2^26, so that the sum is rounded to a whole number of 2^-26
+        let hi = t + 67108864.0 - 67108864.0;
+        let lo = t - hi;
+        r * lo + (r * hi - 1.0)
     }
 }
 
@@ -129,7 +122,8 @@ fn pattern_test(w: u64, e: u64) -> Option<f64>
     }
 }
 
-// Near 2^t, where the rounding test passes.
+// Near 2^t, where the rounding test passes. The range of t is asked for here, and in `Split::of` and
+// `decided` of other crates: a type for it would be made for one call of each.
 #[tactic(auto, using(crate::proofs::Index::two_to_t), unfolding(crate::specs::Fast::exp2_fast))]
 pub fn exp2_fast(t: f64) -> Option<f64>
     requires t_above { T (lt (fin true 75 (pos 1)) t) }

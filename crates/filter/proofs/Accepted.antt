@@ -7,9 +7,9 @@ use Rattle.floats.specs.Operations.{f64}
 use Rattle.floats.specs.Narrowing.{narrowed}
 use Rattle.floats.proofs.Laws.Nan.{number_of_below}
 use Rattle.floats.proofs.Laws.Narrow.{normal_magnitude, narrowed_fits}
-use Rattle.fast_path.specs.Scaling.{scaled, Within}
+use Rattle.fast_path.specs.Scaling.{scaled}
 use Rattle.fast_path.specs.Fast.{rounding_test}
-use Rattle.fast_path.proofs.Lifted.{lifted, lifted_sum}
+use Rattle.fast_path.proofs.Lifted.{lifted, lifted_sum, Within}
 use Rattle.fast_path.proofs.Midpoints.{clear_of_midpoints}
 use Rattle.filter.specs.Plain.{margin}
 use Rattle.filter.proofs.Power.{Unscaled}

@@ -12,10 +12,10 @@ use Rattle.floats.proofs.Laws.Sums.{whole_at_most}
 use Rattle.floats.proofs.Laws.Units.{exponent, in_units, bits_of_value, fits_signed, bits_under_top}
 use Rattle.special.specs.Special as Special
 use Rattle.special.proofs.Rule.{finite_number}
-use Rattle.fast_path.specs.Scaling.{scaled, Within}
+use Rattle.fast_path.specs.Scaling.{scaled}
 use Rattle.fast_path.specs.Fast.{exp2_reduced, exp2_fast}
 use Rattle.fast_path.proofs.Index.{within_of_size}
-use Rattle.fast_path.proofs.Lifted.{lifted, lifted_sum}
+use Rattle.fast_path.proofs.Lifted.{lifted, lifted_sum, Within}
 use Rattle.fast_path.proofs.Midpoints.{below_normal}
 use Rattle.bounds.proofs.Values.{per_one, plus, less, mag, mag_of, one_side, Number}
 use Rattle.bounds.proofs.OwnScale.{Nil}

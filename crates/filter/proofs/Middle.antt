@@ -13,9 +13,9 @@ use Rattle.floats.proofs.Laws.SmallWhole.{plus_zero, NotMinusZero, left_over}
 use Rattle.floats.proofs.Laws.Units.{HasSign, exponent}
 use Rattle.special.specs.Special as Special
 use Rattle.tables.specs.Tables.{entry, compoundf_exp2_t}
-use Rattle.fast_path.specs.Scaling.{scaled, Within}
+use Rattle.fast_path.specs.Scaling.{scaled}
 use Rattle.fast_path.specs.Fast.{power_index}
-use Rattle.fast_path.proofs.Lifted.{lifted}
+use Rattle.fast_path.proofs.Lifted.{lifted, Within}
 use Rattle.fast_path.proofs.Index.{between_finite, within_of_size}
 use Rattle.bounds.proofs.Values.{plus, less, mag, Number}
 use Rattle.bounds.proofs.Scales.{S, one_is, Bound, at}

@@ -1,7 +1,7 @@
 -- For t from -150 to -127, k is from -150 to -127 (`below_normal`). Assumes nothing.
 use Rattle.std.proofs.Common.{◌≡◌, ℕ, zero, suc, ◌+◌, ◌*◌, ◌/◌, ◌^◌, ◌<◌, ◌≤◌, sym, ap, ◌∙◌, subst, true, false, min, le_trans, le_of_eq, le_of_suc-le-suc, not-le_of_lt, mul-one, mul-div_cancel, mul-le-mul_right, arith, T, lit<, ℤ, pos, negsuc, neg_ℤ, w64, to_z, of_z}
 use mathlib.Core.Bool.{false≢true}
-use Rattle.fast_path.proofs.Lifted.{within_read}
+use Rattle.fast_path.proofs.Lifted.{within_read, Within}
 use lib.Ieee.{Float, nan, inf, fin, binary64, up, down, fits, le, to_signed}
 use lib.Ieee.Exact.{HasValue}
 use lib.Ieee.Fits.{down_pos}
@@ -11,7 +11,6 @@ use Rattle.floats.specs.Narrowing.{nearest_whole}
 use Rattle.floats.proofs.Laws.Closest.{closest_one}
 use Rattle.floats.proofs.Laws.Sums.{le_says, whole_at_most}
 use Rattle.floats.proofs.Laws.Whole.{nearest_whole_exact}
-use Rattle.fast_path.specs.Scaling.{Within}
 use Rattle.fast_path.proofs.Index.{within_of_size}
 use Rattle.bounds.proofs.Values.{per_one}
 use Rattle.bounds.proofs.Scales.{S, one_is, Bound}

@@ -5,7 +5,7 @@ use Rattle.std.specs.Float.{float_clamp}
 use lib.Ieee.{Float, nan, inf, fin, binary64, up, down, round, lt, to_signed, is_nan, fits}
 use Rattle.floats.specs.Narrowing.{nearest_whole}
 use Rattle.floats.proofs.Laws.Sums.{SizeAtMost}
-use Rattle.fast_path.specs.Scaling.{Within}
+use Rattle.fast_path.proofs.Lifted.{Within}
 use Rattle.fast_path.specs.Fast.{power_index}
 use Rattle.slow_path.specs.Slow.{clamped_index, clamped_k}
 use Rattle.bounds.proofs.Values.{plus, less, Number}

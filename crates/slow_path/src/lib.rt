@@ -8,16 +8,18 @@ ghost use Rattle.fast_path.specs.Fast.{HasInverse};
 ghost use Rattle.slow_path.specs.Slow as spec;
 
 use double_double::DoubleDouble;
+use fast_path::DdFmla;
+use fast_path::evaluation::MulAdd;
+use fast_path::inverse::WithInverse;
 use fast_path::scaling::{biased, exponent, scaled};
-use fast_path::{inverse_index, times_minus_one};
 use floats::narrowing::narrow;
 use floats::rounding::round_ties_even;
 use fmla::fmla;
 use special::operands::Base;
 use std::num::{f64_from_bits_with_nan, f64_to_bits_with_nan};
 use tables::{
-    CompoundfExp2T, CompoundfExp2U, Log2p1CompoundfInv, Log2p1CompoundfLog2Inv, Log2p1Log2Poly,
-    Log2p1Scale, PairTable, PolyQ2, Table,
+    CompoundfExp2T, CompoundfExp2U, Log2p1CompoundfLog2Inv, Log2p1Log2Poly, Log2p1Scale, PairTable,
+    PolyQ2, Table,
 };
 
 // v with t, the sum of its hi and a coefficient's, and with the coefficient's lo added to its own.
@@ -114,12 +116,11 @@ fn log2_reduced(e: f64, v: DoubleDouble) -> DoubleDouble
     requires { HasInverse v.hi }
     ensures { result ≡ spec.log2_reduced e v }
 {
-    let i = inverse_index(v.hi);
-    let r = Log2p1CompoundfInv::at(i);
+    let t = WithInverse::of(v.hi);
     // r * (v.hi + v.lo) - 1
-    let z = DoubleDouble::from_exact_add(times_minus_one(r, v.hi), r * v.lo);
+    let z = DoubleDouble::from_exact_add(DdFmla::times_minus_one(t), t.r * v.lo);
     let log_p = log2_poly2(z);
-    sum_of_logs(e, Log2p1CompoundfLog2Inv::at(i), log_p)
+    sum_of_logs(e, Log2p1CompoundfLog2Inv::at(t.index), log_p)
 }
 
 // Near log2(1 + x). The source says that the relative error is below 2^-91.123; `higher` does not bear

@@ -16,7 +16,8 @@ use Rattle.floats.proofs.Laws.Order.{clear}
 use Rattle.double_double.specs.declared.DoubleDouble.{DoubleDouble}
 use Rattle.double_double.specs.DoubleDouble.{from_exact_add}
 use Rattle.special.specs.Special.{zero}
-use Rattle.fast_path.specs.Scaling.{scaled, Within}
+use Rattle.fast_path.specs.Scaling.{scaled}
+use Rattle.fast_path.proofs.Lifted.{Within}
 use Rattle.fast_path.specs.Fast.{power_index, HasPower}
 use Rattle.slow_path.specs.Slow.{clamped_index, clamped_k, test_pattern, is_lost, one_towards, rounded_to_odd, scaled_to_f32, exp2_product, err_of, is_small, exp2_away}
 use Rattle.slow_path.proofs.Clamped.{index_unclamped, clamped_k_within}
