@@ -18,7 +18,7 @@ use Rattle.compound.specs.Route.{compound}
 unfoldable pub TNumber : Float → Float → Type 0
 TNumber x y = is_rule x y ≡ false → T (not (is_nan (compoundf_log2p1_fast x ⊗ y)))
 
--- the exponent of the slow path, near y×log2(1 + x), and its k: what `exp2_accurate` in compound/specs/Slow.antt makes of it
+-- the exponent of the slow path, near y×log2(1 + x), and its k: what `exp2_accurate` in slow_path/specs/Slow.antt makes of it
 abbrev pub slow_exponent : Float → Float → DoubleDouble
 slow_exponent x y = quick_mult_f64 (compoundf_log2p1_accurate x) y
 
@@ -29,7 +29,7 @@ slow_k x y = nearest_whole (slow_exponent x y).hi
 abbrev pub slow_rest : Float → Float → Float
 slow_rest x y = (from_exact_add ((slow_exponent x y).hi ⊖ slow_k x y) (slow_exponent x y).lo).hi
 
--- On the route `slow` the index is from 0 to 32 before any cut: index 0 is place 0x10010 (`power_index` in compound/specs/Fast.antt).
+-- On the route `slow` the index is from 0 to 32 before any cut: index 0 is place 0x10010 (`power_index` in fast_path/specs/Fast.antt).
 unfoldable pub IndexInside : Float → Float → Type 0
 IndexInside x y = (compound x y).via ≡ slow → (0x10010 ≤ power_place (slow_rest x y)) × (power_place (slow_rest x y) ≤ 0x10030)
 

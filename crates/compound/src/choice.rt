@@ -17,7 +17,8 @@ use slow_filter::slow_answer;
 use slow_path::compoundf_accurate;
 use special::operands::Operands;
 
-// The routes `fast` and `slow`: whichever the tests in `exp2_fast` say.
+// The routes `fast` and `slow`: whichever the tests in `exp2_fast` say. The range of t is that of
+// `exp2_fast`.
 #[tactic(auto, unfolding(crate::specs::Answer::outcome, crate::specs::Route::decided))]
 fn decided(pair: Operands, t: f64) -> Answer
     requires t_above { T (lt (fin true 75 (pos 1)) t) }
@@ -63,8 +64,10 @@ fn is_absorbed(nx: u32) -> bool
     nx % 0x8000_0000 <= 0x2480_0000
 }
 
-// The same for the f32s of the patterns nx and ny: by the filter where it settles the answer. An x that
-// is absorbed is told first, since the processor then need not wait for a logarithm to know the way.
+// What `as_written` answers for the f32s of the patterns nx and ny: by the filter where it settles the
+// answer. An x that is absorbed is told first, since the processor then need not wait for a logarithm to
+// know the way. Each case of `Found` has an arm, since each makes another answer of it: a closure or a
+// table would say the cases once more.
 pub(crate) fn table_path(nx: u32, ny: u32) -> Answer
     requires { Tabled (of_bits binary32 nx) (of_bits binary32 ny) }
     ensures { outcome result ≡ spec.table_path (of_bits binary32 nx) (of_bits binary32 ny) }

@@ -37,9 +37,13 @@ part_of t = t ⊖ nearest_whole t
 unfoldable pub rest_of : Float → Float
 rest_of t = part_of t ⊖ entry compoundf_exp2_t (power_index (part_of t))
 
+-- the pattern of the power of index i times the polynomial at what is left
+abbrev pub power_at : ℕ → Float → ℕ
+power_at i rest = to_bits binary64 ((pair_entry compoundf_exp2_u i).hi ⊗ plain_expf_poly rest)
+
 -- the pattern of 2^t in `exp2_fast`, before it is scaled
 unfoldable pub plain_pattern : Float → ℕ
-plain_pattern t = to_bits binary64 ((pair_entry compoundf_exp2_u (power_index (part_of t))).hi ⊗ plain_expf_poly (rest_of t))
+plain_pattern t = power_at (power_index (part_of t)) (rest_of t)
 
 -- ---- what is found, from t
 -- a pattern that is further than this from every midpoint of two f32s settles the answer
@@ -93,8 +97,11 @@ slow_from = fin true 299 (negsuc 0)
 abbrev pub slow_to : Float
 slow_to = fin true 1 (pos 7)
 
+abbrev pub is_below_normal : Float → Bool
+is_below_normal t = le t slow_to && le slow_from t
+
 unfoldable pub low_found : Float → Option Found
-low_found t = cond (le t low_edge) (Some Low) (cond (le t slow_to && le slow_from t) (Some Slow) None)
+low_found t = cond (le t low_edge) (Some Low) (cond (is_below_normal t) (Some Slow) None)
 
 -- t above 124: at least 129 it is at the upper edge
 abbrev pub high_edge : Float

@@ -18,7 +18,6 @@ use crate::midpoints::{clear_of_midpoints, narrowed_pattern};
 use crate::plain::Plain;
 use crate::split::{Split, clear_of_index};
 use fast_path::evaluation::{log2p1, power};
-use fast_path::scaling::scaled;
 use floats::common::is_within;
 use special::operands::Operands;
 
@@ -72,7 +71,9 @@ pub enum Found {
 
 // Slow, where the scaled pattern w is at most 2^11 from a midpoint of two f32s, and |t| is at most 2^-14.
 // There the fast path's pattern is at most 64 from w, and its bound on the error is 2280 last places or
-// more, so that the midpoint is between its two bounds.
+// more, so that the midpoint is between its two bounds. The range of w is asked for here, in the next
+// function and in two of `midpoints`: a type for it would be made for one call, and taken apart in the
+// next.
 #[tactic(auto, unfolding(crate::specs::Plain::near_midpoint))]
 fn near_midpoint(t: f64, w: u64) -> Option<Found>
     requires { w < 1148 * 2 ^ 52 }
@@ -101,12 +102,7 @@ fn in_two_steps(t: f64) -> Option<Found>
     requires { spec.Middle t }
     ensures { result ≡ spec.middle_found t }
 {
-    let s = Split::of(t);
-    if s.is_clear(SWITCH_GAP) {
-        rounded_pattern(t, scaled(s.power(), s.k))
-    } else {
-        None
-    }
+    rounded_pattern(t, Split::of(t).pattern(SWITCH_GAP)?)
 }
 
 // The same in one step, where the nearest 32nd is not halfway between two whole numbers and no switch of
@@ -131,6 +127,14 @@ fn middle_found(t: f64) -> Option<Found>
     }
 }
 
+// Whether t is from -149.5 to -128, where 2^t is below the normal f32s.
+#[tactic(auto, using(crate::proofs::Limits::edges))]
+pub fn is_below_normal(t: f64) -> bool
+    ensures { result ≡ spec.is_below_normal t }
+{
+    (t <= SLOW_TO) & (t >= SLOW_FROM)
+}
+
 // For t below -124.
 #[tactic(auto, using(crate::proofs::Limits::edges), unfolding(crate::specs::Plain::low_found))]
 fn low_found(t: f64) -> Option<Found>
@@ -139,7 +143,7 @@ fn low_found(t: f64) -> Option<Found>
     if t <= LOW_EDGE {
         Some(Found::Low)
     } else {
-        ((t <= SLOW_TO) & (t >= SLOW_FROM)).then_some(Found::Slow)
+        is_below_normal(t).then_some(Found::Slow)
     }
 }
 

@@ -3,6 +3,7 @@
 ghost use Rattle.filter.specs.Plain as spec;
 
 use fast_path::evaluation::MulAdd;
+use fast_path::inverse::WithInverse;
 
 const MINUS_ONE: f64 = -1.0;
 
@@ -17,7 +18,7 @@ impl MulAdd for Plain {
     }
 
     #[tactic(auto, using(crate::proofs::Limits::is_minus_1))]
-    fn times_minus_one(r: f64, t: f64) -> f64 {
-        r * t + MINUS_ONE
+    fn times_minus_one(v: WithInverse) -> f64 {
+        v.r * v.t + MINUS_ONE
     }
 }

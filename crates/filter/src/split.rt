@@ -1,17 +1,18 @@
 // t as a whole number, a number of 32nds, and what is left.
-ghost use Rattle.std.specs.Prelude.{◌≡◌, ◌<◌, true, false, T, pos, to_bits};
-ghost use Rattle.std.specs.Float.{binary64, fin};
+ghost use Rattle.std.specs.Prelude.{◌≡◌, ◌<◌, true, false, cond, T, pos};
+ghost use Rattle.std.specs.Float.{fin};
 ghost use Rattle.std.specs.Float.Ieee.{eq, lt, to_signed};
-ghost use Rattle.floats.specs.Operations.{◌⊗◌};
 ghost use Rattle.floats.specs.Narrowing.{nearest_whole};
-ghost use Rattle.tables.specs.Tables.{pair_entry, compoundf_exp2_u};
 ghost use Rattle.special.specs.Special.{zero};
+ghost use Rattle.fast_path.specs.Scaling.{scaled};
 ghost use Rattle.fast_path.specs.Fast.{power_index};
 ghost use Rattle.filter.specs.Plain as spec;
+ghost use Rattle.std.specs.declared.option.Option.TheVariants.{Some, None};
 
 use crate::plain::Plain;
 use fast_path::evaluation::power;
 use fast_path::power_index;
+use fast_path::scaling::scaled;
 use floats::common::is_within;
 use floats::rounding::round_ties_even_small;
 use tables::{CompoundfExp2T, Table};
@@ -28,7 +29,7 @@ pub struct Split {
 }
 
 impl Split {
-    // Of a t from -150 to 128 that is not 0.
+    // Of a t from -150 to 128 that is not 0. No type says so: it would be made for this one call.
     #[tactic(auto, using(crate::proofs::NotZero::split), unfolding(crate::specs::Plain::rest_of))]
     pub fn of(t: f64) -> Split
         requires t_above { T (lt (fin true 75 (pos 1)) t) }
@@ -52,17 +53,29 @@ impl Split {
 
     // Whether k and the index stay the same within `gap` of t: k switches at a half, and the index at a
     // 64th.
-    pub fn is_clear(self, gap: f64) -> bool
+    fn is_clear(self, gap: f64) -> bool
         ensures { result ≡ spec.clear_of_switches gap self.part self.rest }
     {
         is_within(self.part, 0.5 - gap) & clear_of_index(self.rest, gap)
     }
 
     // The plain pattern of 2 to the power of what is left of t over k.
-    pub fn power(self) -> u64
-        ensures { result ≡ to_bits binary64 ((pair_entry compoundf_exp2_u self.index).hi ⊗ spec.plain_expf_poly self.rest) }
+    fn power(self) -> u64
+        ensures { result ≡ spec.power_at self.index self.rest }
     {
         power::<Plain>(self.index, self.rest)
+    }
+
+    // The plain pattern of 2^t, where k and the index stay the same within `gap` of t.
+    pub fn pattern(self, gap: f64) -> Option<u64>
+        ensures { result ≡ cond (spec.clear_of_switches gap self.part self.rest)
+            (Some (scaled (spec.power_at self.index self.rest) self.k)) None }
+    {
+        if self.is_clear(gap) {
+            Some(scaled(self.power(), self.k))
+        } else {
+            None
+        }
     }
 }
 

@@ -1,7 +1,7 @@
 -- For t from -150 to -127, k is from -150 to -127 (`below_normal`). Assumes nothing.
-use Rattle.std.proofs.Common.{◌≡◌, ℕ, zero, suc, ◌+◌, ◌*◌, ◌/◌, ◌^◌, ◌<◌, ◌≤◌, sym, ap, ◌∙◌, subst, true, false, min, le_trans, le_of_eq, le_of_suc-le-suc, not-le_of_lt, mul-one, mul-div_cancel, mul-le-mul_right, arith, T, lit<, ℤ, pos, negsuc, neg_ℤ, w64, to_z, of_z}
+use Rattle.std.proofs.Common.{◌≡◌, ℕ, zero, suc, ◌+◌, ◌*◌, ◌/◌, ◌^◌, ◌<◌, ◌≤◌, sym, ap, ◌∙◌, subst, true, false, min, le_trans, le_of_eq, le_of_suc-le-suc, not-le_of_lt, mul-one, mul-div_cancel, mul-le-mul_right, arith, T, lit<, ℤ, pos, neg_ℤ}
 use mathlib.Core.Bool.{false≢true}
-use Rattle.fast_path.proofs.Lifted.{within_read, Within}
+use Rattle.fast_path.proofs.Lifted.{Within}
 use lib.Ieee.{Float, nan, inf, fin, binary64, up, down, fits, le, to_signed}
 use lib.Ieee.Exact.{HasValue}
 use lib.Ieee.Fits.{down_pos}
@@ -61,11 +61,3 @@ below_normal {t} c i g b h = go t b.number.held b.number.plain (subst T (sym h) 
     go (inf s) f p h w = absurd p
     go (fin false m e) f p h w = absurd (none (m * up e) (c * 2 ^ i * down e) (down e) (down_pos e) (mul-le-mul_right (down e) g) (le_says false m e true c (pos i) h))
     go (fin true m e) f p h w = whole_below m e f (some (m * up e) (c * 2 ^ i * down e) (down e) (mul-le-mul_right (down e) g) (le_says true m e true c (pos i) h)) w
-
--- such a k is read back from the bits of an i64
-pub k_read : (k : ℤ) → BelowNormal k → to_z w64 (of_z w64 k) ≡ k
-k_read k h = within_read k (small k h)
-  where
-    small : (k : ℤ) → BelowNormal k → Within 1000 k
-    small (pos n) h = absurd h
-    small (negsuc n) h = omega (arith, h.1)

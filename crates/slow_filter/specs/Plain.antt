@@ -7,7 +7,7 @@ use Rattle.floats.specs.Operations.{◌⊗◌, f64}
 use Rattle.floats.specs.Narrowing.{nearest_whole}
 use Rattle.floats.specs.OnBits.{absolute}
 use Rattle.special.specs.Special.{one}
-use Rattle.filter.specs.Plain.{plain_factor, plain_log2p1, part_of, rest_of, plain_pattern, clear_of_switches, slow_from, slow_to}
+use Rattle.filter.specs.Plain.{plain_factor, plain_log2p1, part_of, rest_of, plain_pattern, clear_of_switches, is_below_normal}
 use Rattle.slow_filter.specs.Subnormal.{subnormal_found}
 use Rattle.slow_filter.specs.NearOne.{near_one_found}
 
@@ -29,7 +29,7 @@ plain_log x = cond (le kept_from (absolute x)) (plain_log2p1 x) (x ⊗ plain_fac
 
 -- whether the plain evaluation is near enough below the normal f32s: y is not 1, and t is from -149.5 to -128
 unfoldable pub in_reach : Float → Float → Bool
-in_reach y t = ne y one && (le t slow_to && le slow_from t)
+in_reach y t = ne y one && is_below_normal t
 
 -- and next to 1: y is not 1, and |t| is from 2^-25 to 2^-16
 abbrev pub next_from : Float

@@ -16,19 +16,14 @@ ghost use Rattle.slow_filter.specs.NearOne as near;
 ghost use Rattle.slow_filter.specs.Plain as plain;
 
 use fast_path::evaluation::{factor, log2p1};
-use fast_path::scaling::scaled;
+use filter::is_below_normal;
 use filter::midpoints::narrowed_pattern;
 use filter::plain::Plain;
 use filter::split::Split;
+use floats::narrowing::SUBNORMAL_OFFSET;
 use slow_path::compoundf_accurate;
 use special::operands::Operands;
 use tables::{PolyQ2, Table};
-
-// 2^-97: the last place of an f64 from there to 2^-96 is that of an f32 below 2^-126, so a sum with it
-// is rounded where the f32 is.
-const OFFSET: f64 = f64::from_bits(OFFSET_BITS);
-
-const OFFSET_BITS: u64 = 0x39e0_0000_0000_0000;
 
 // 2^-27: further than this from a switch of k or of the index, the slow path's own t is on the same side
 // of it.
@@ -44,6 +39,9 @@ const KEPT_FROM: f64 = f64::from_bits(0x3e20_0000_0000_0000);
 const NEXT_FROM: f64 = f64::from_bits(0x3e60_0000_0000_0000);
 
 const NEXT_TO: f64 = f64::from_bits(0x3ef0_0000_0000_0000);
+
+// 2^-97: a sum with it is rounded where an f32 is.
+const OFFSET: f64 = f64::from_bits(SUBNORMAL_OFFSET);
 
 // The pattern of the sum of the pattern w and 2^-97.
 #[tactic(auto, unfolding(crate::specs::Subnormal::subnormal_sum))]
@@ -65,24 +63,20 @@ fn rounded_subnormal(w: u64) -> Option<f32>
     let low = subnormal_sum(w - 0x200_0000);
     let high = subnormal_sum(w + 0x200_0000);
     if low == high {
-        Some(f32::from_bits((low - OFFSET_BITS) as u32))
+        Some(f32::from_bits((low - SUBNORMAL_OFFSET) as u32))
     } else {
         None
     }
 }
 
 // For t from -149.5 to -128.
+#[tactic(auto, using(crate::proofs::Split::split), unfolding(crate::specs::Plain::subnormal_power, crate::specs::Subnormal::subnormal_found, filter::specs::Plain::plain_pattern))]
 fn subnormal_power(t: f64) -> Option<f32>
     requires t_most { T (le t slow_to) }
     requires t_least { T (le slow_from t) }
     ensures { result ≡ plain.subnormal_power t }
 {
-    let s = Split::of(t);
-    if s.is_clear(SWITCH_GAP) {
-        rounded_subnormal(scaled(s.power(), s.k))
-    } else {
-        None
-    }
+    rounded_subnormal(Split::of(t).pattern(SWITCH_GAP)?)
 }
 
 // Near 2^z for |z| <= 2^-16.
@@ -117,10 +111,11 @@ fn plain_log(x: f64) -> f64
 }
 
 // Whether the plain evaluation is near enough below the normal f32s.
+#[tactic(auto, unfolding(crate::specs::Plain::in_reach))]
 fn in_reach(y: f64, t: f64) -> bool
     ensures { result ≡ plain.in_reach y t }
 {
-    (y != 1.0) & ((t <= -128.0) & (t >= -149.5))
+    (y != 1.0) & is_below_normal(t)
 }
 
 // And next to 1.

@@ -1,6 +1,6 @@
 -- How large the accurate logarithm's polynomial and sums are: the polynomial is z times a factor of at most 2 (`poly_size`), on the scale of 1 or on that of z. Numbers are on
 -- the scale of 1, where 2^53 is 1. Assumes nothing.
-use Rattle.std.proofs.Common.{◌≡◌, ℕ, ◌+◌, ◌*◌, ◌^◌, ◌<◌, Bool, true, ◌&&◌, T, refl, subst, arith, lit<, false}
+use Rattle.std.proofs.Common.{◌≡◌, ℕ, ◌+◌, ◌*◌, ◌^◌, ◌<◌, Bool, ◌&&◌, T, refl, subst, arith, lit<}
 use lib.Ieee.{Float}
 use Rattle.double_double.specs.declared.DoubleDouble.{DoubleDouble}
 use Rattle.double_double.specs.DoubleDouble.{quick_mult_f64, dd_fmla}

@@ -4,7 +4,6 @@
 
 ghost use Rattle.std.specs.Prelude.{◌≡◌, ◌<◌};
 ghost use Rattle.floats.specs.Narrowing.{nearest_whole};
-ghost use Rattle.fast_path.specs.Fast.{HasInverse};
 ghost use Rattle.slow_path.specs.Slow as spec;
 
 use double_double::DoubleDouble;
@@ -110,15 +109,13 @@ fn sum_of_logs(e: f64, a: DoubleDouble, b: DoubleDouble) -> DoubleDouble
     }
 }
 
-// e + log2(v.hi + v.lo), for a v.hi that has an inverse.
+// e + log2(t + lo).
 #[tactic(auto, unfolding(crate::specs::Slow::log2_reduced, crate::specs::Slow::times_inverse))]
-fn log2_reduced(e: f64, v: DoubleDouble) -> DoubleDouble
-    requires { HasInverse v.hi }
-    ensures { result ≡ spec.log2_reduced e v }
+fn log2_reduced(e: f64, t: WithInverse, lo: f64) -> DoubleDouble
+    ensures { result ≡ spec.log2_reduced e (record { lo = lo; hi = t.t }) }
 {
-    let t = WithInverse::of(v.hi);
-    // r * (v.hi + v.lo) - 1
-    let z = DoubleDouble::from_exact_add(DdFmla::times_minus_one(t), t.r * v.lo);
+    // r * (t + lo) - 1
+    let z = DoubleDouble::from_exact_add(DdFmla::times_minus_one(t), t.r * lo);
     let log_p = log2_poly2(z);
     sum_of_logs(e, Log2p1CompoundfLog2Inv::at(t.index), log_p)
 }
@@ -133,11 +130,8 @@ fn compoundf_log2p1_accurate(base: Base) -> DoubleDouble
     let bits = f64_to_bits_with_nan(v.hi);
     // 2^-e
     let scale = Log2p1Scale::at(biased(bits) + 29 - 1023);
-    let reduced = DoubleDouble {
-        lo: v.lo * scale,
-        hi: v.hi * scale,
-    };
-    log2_reduced(exponent(bits), reduced)
+    let t = WithInverse::of(v.hi * scale);
+    log2_reduced(exponent(bits), t, v.lo * scale)
 }
 
 // q times z, and added to the coefficient in entries i and i + 1.

@@ -34,7 +34,7 @@ at-scale-requires c = omega (arith, (field (goal.at.at-scale-requires c).After-b
 pub exponent-requires : goal.exponent-requires
 exponent-requires c = lt_trans (in_scale (goal.at.exponent-requires c).After-f64_to_bits_with_nan-bits).1 (lit< tt)
 
-pub log2_reduced-requires : goal.log2_reduced-requires
-log2_reduced-requires c =
+pub of-t-requires : goal.of-t-requires
+of-t-requires c =
     let e : (one_plus c.args.base.x).hi ⊗ entry log2p1_scale (biased (to_bits binary64 (one_plus c.args.base.x).hi) + 29 - 1023) ≡ c.one_plus-v.result.hi ⊗ c.at-scale.result = cc in
     subst HasInverse e (accurate_index c.args.base.x c.args.base.is_base).1
