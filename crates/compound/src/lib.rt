@@ -85,7 +85,8 @@ impl Answer {
     }
 }
 
-// (1 + x)^y, for the f32s x and y of the patterns nx and ny.
+// (1 + x)^y, for the f32s x and y of the patterns nx and ny. Each function that takes them takes two
+// numbers, since C hands them so.
 #[tactic(auto, unfolding(crate::specs::Answer::outcome, crate::specs::Route::compound))]
 pub fn f_compoundf(nx: u32, ny: u32) -> Answer
     ensures { outcome result ≡ spec.compound (of_bits binary32 nx) (of_bits binary32 ny) }

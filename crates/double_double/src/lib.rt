@@ -2,7 +2,8 @@
 // uses. A translation of the non-fma branch of `double_double.rs` and of `dd_fmla` in `common.rs`
 // of pxfm 0.1.30 (NOTICE); names and the order of the operations are the source's. Each contract
 // says that the result is the definition's in specs/DoubleDouble.antt, at every pair of f64.
-// `quick_mult` and `quick_mult_f64` differ in their operations, and so do the two exact adds.
+// `quick_mult` and `quick_mult_f64` differ in their operations, and so do the two exact adds. The
+// operands a, b and c are parameters, here and in `fmla`, as the source has them.
 #![tactic(auto)]
 
 ghost use Rattle.std.specs.Prelude.{◌≡◌};
