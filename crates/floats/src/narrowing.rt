@@ -35,7 +35,7 @@ pub fn narrow_number(x: f64) -> f32
 
 // The pattern of the narrowed value, for the pattern m of an f64 that is no NaN and whose sign is
 // clear. Two patterns are worked out, one for values below 2^-126 and one for those from it up, and
-// the right one is taken.
+// the right one is taken: both are whole before the test, so that the compiler makes no branch of it.
 fn narrow_magnitude(m: u64) -> u64
     requires { m ≤ 0x7ff0_0000_0000_0000 }
     ensures { result ≡ to_bits binary32 (narrowed (from_bits binary64 m)) }
@@ -45,12 +45,9 @@ fn narrow_magnitude(m: u64) -> u64
     // Of the 52 digits 23 are kept: add half a last place less one, and one more if the last kept
     // digit is odd, and cut. A carry runs into the exponent's field, which is less by 896.
     let kept = (m + 0xfff_ffff + m / 0x2000_0000 % 2) / 0x2000_0000;
-    let high = kept.wrapping_sub(0x1_c000_0000);
-    if m < 0x3810_0000_0000_0000 {
-        return low;
-    }
-    // and from 2^128 up it is the infinity
-    high.min(0x7f80_0000)
+    // From 2^128 up it is the infinity.
+    let high = kept.wrapping_sub(0x1_c000_0000).min(0x7f80_0000);
+    if m < 0x3810_0000_0000_0000 { low } else { high }
 }
 
 // The nearest f32 to a positive fraction: from 2^128 - 2^103 up it is infinity, and below that it is

@@ -58,5 +58,5 @@ float_to_bits-low c = sum_number c.args.m c.requires
 pub returns-then-m-lt4039728865751334912 : goal.returns-then-m-lt4039728865751334912
 returns-then-m-lt4039728865751334912 c = low_is c.args.m c.if-m-lt4039728865751334912.true
 
-pub returns : goal.returns
-returns c = c.min.ensures ∙ high_is c.args.m c.requires c.if-m-lt4039728865751334912.false
+pub returns-else-m-lt4039728865751334912 : goal.returns-else-m-lt4039728865751334912
+returns-else-m-lt4039728865751334912 c = c.min-high.ensures ∙ high_is c.args.m c.requires c.if-m-lt4039728865751334912.false
