@@ -4,9 +4,11 @@ ghost use Rattle.std.specs.Prelude.{◌≡◌, ◌≤◌, not, T, from_bits, is_
 ghost use Rattle.std.specs.Float.{binary32, binary64};
 ghost use Rattle.floats.specs.Narrowing.{narrowed, NearestF32Ends};
 
-// The pattern of 2^-97. The last place of an f64 from there to 2^-96 is 2^-149, and so is that of an f32
-// below 2^-126: a sum with 2^-97 is rounded where the f32 is, and its pattern has the f32's over this.
-pub const SUBNORMAL_OFFSET: u64 = 0x39e0_0000_0000_0000;
+// 2^-97. The last place of an f64 from there to 2^-96 is 2^-149, and so is that of an f32 below 2^-126: a
+// sum with 2^-97 is rounded where the f32 is, and its pattern less that of 2^-97 is the f32's.
+pub const OFFSET: f64 = f64::from_bits(OFFSET_BITS);
+
+pub const OFFSET_BITS: u64 = 0x39e0_0000_0000_0000;
 
 // The nearest f32, ties to even, with subnormals, overflow to infinity and the sign of zero kept. A
 // NaN gives the NaN. `std::num::nearest_f64_to_f32_with_nan` has the same values, but takes three times
@@ -40,8 +42,7 @@ fn narrow_magnitude(m: u64) -> u64
     requires { m ≤ 0x7ff0_0000_0000_0000 }
     ensures { result ≡ to_bits binary32 (narrowed (from_bits binary64 m)) }
 {
-    let sum = f64::from_bits(m) + f64::from_bits(SUBNORMAL_OFFSET);
-    let low = f64::to_bits(sum).wrapping_sub(SUBNORMAL_OFFSET);
+    let low = f64::to_bits(f64::from_bits(m) + OFFSET).wrapping_sub(OFFSET_BITS);
     // Of the 52 digits 23 are kept: add half a last place less one, and one more if the last kept
     // digit is odd, and cut. A carry runs into the exponent's field, which is less by 896.
     let kept = (m + 0xfff_ffff + m / 0x2000_0000 % 2) / 0x2000_0000;

@@ -20,7 +20,7 @@ use filter::is_below_normal;
 use filter::midpoints::narrowed_pattern;
 use filter::plain::Plain;
 use filter::split::Split;
-use floats::narrowing::SUBNORMAL_OFFSET;
+use floats::narrowing::{OFFSET, OFFSET_BITS};
 use slow_path::compoundf_accurate;
 use special::operands::Operands;
 use tables::{PolyQ2, Table};
@@ -39,9 +39,6 @@ const KEPT_FROM: f64 = f64::from_bits(0x3e20_0000_0000_0000);
 const NEXT_FROM: f64 = f64::from_bits(0x3e60_0000_0000_0000);
 
 const NEXT_TO: f64 = f64::from_bits(0x3ef0_0000_0000_0000);
-
-// 2^-97: a sum with it is rounded where an f32 is.
-const OFFSET: f64 = f64::from_bits(SUBNORMAL_OFFSET);
 
 // The pattern of the sum of the pattern w and 2^-97.
 #[tactic(auto, unfolding(crate::specs::Subnormal::subnormal_sum))]
@@ -63,7 +60,7 @@ fn rounded_subnormal(w: u64) -> Option<f32>
     let low = subnormal_sum(w - 0x200_0000);
     let high = subnormal_sum(w + 0x200_0000);
     if low == high {
-        Some(f32::from_bits((low - SUBNORMAL_OFFSET) as u32))
+        Some(f32::from_bits((low - OFFSET_BITS) as u32))
     } else {
         None
     }

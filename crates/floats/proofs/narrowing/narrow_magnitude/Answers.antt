@@ -1,6 +1,6 @@
 -- `narrow_magnitude` meets its contract: the pattern that is taken is `low_pattern` or `normal_magnitude`, where the difference does not wrap. Assumes nothing.
-use Rattle.std.proofs.Common.{◌≡◌, ℕ, ◌+◌, ◌-◌, ◌*◌, ◌/◌, ◌%◌, ◌^◌, ◌<◌, ◌≤◌, min, false, not, T, negsuc, sym, refl, ap, ◌∙◌, subst, arith}
-use lib.Ieee.{Float, fin, binary32, binary64, add, is_nan, nan_bits, to_bits, of_bits}
+use Rattle.std.proofs.Common.{◌≡◌, ℕ, ◌+◌, ◌-◌, ◌*◌, ◌/◌, ◌%◌, ◌^◌, ◌<◌, ◌≤◌, min, sym, refl, ap, ◌∙◌, arith}
+use lib.Ieee.{binary32, binary64, add, to_bits, of_bits}
 use lib.Ieee.Bits.{to_bits-lt}
 use lib.Ieee.Fits.{add-fits}
 use Rattle.floats.specs.Narrowing.{narrowed}
@@ -12,16 +12,6 @@ use Rattle.floats.proofs.narrowing.narrow_magnitude.Goals as goal
 
 within : (m : ℕ) → m ≤ 0x7ff0000000000000 → m % 2 ^ 63 ≤ 0x7ff0000000000000
 within m h = omega (arith, h)
-
--- the sum with 2^-97 is a number for every m
-two_to_minus_97 : (of_bits binary64 0x39e0000000000000 ≡ fin false 1 (negsuc 96)) × T (not (nan_bits binary64 0x39e0000000000000))
-unfolding of_bits nan_bits
-two_to_minus_97 = (refl, tt)
-
-sum_number : (m : ℕ) → m ≤ 0x7ff0000000000000 → T (not (is_nan (add binary64 (of_bits binary64 m) (of_bits binary64 0x39e0000000000000))))
-sum_number m h =
-    subst (λ (x : Float). T (not (is_nan (add binary64 (of_bits binary64 m) x)))) (sym two_to_minus_97.0)
-    (add_number binary64 (of_bits binary64 m) false 1 (negsuc 96) (number_of_bits binary64 m (within m h)))
 
 -- a difference that does not wrap
 difference : (a b k : ℕ) → k + b ≡ 2 ^ 64 → a < 2 ^ 64 → b ≤ a → (a + k) % 2 ^ 64 ≡ a - b
@@ -46,14 +36,12 @@ low_is m h = difference (sum m) 0x39e0000000000000 _ refl (to_bits-lt binary64 _
 high_is : (m : ℕ) → m ≤ 0x7ff0000000000000 → 0x3810_0000_0000_0000 ≤ m → min ((kept m + 0xfffffffe40000000) % 2 ^ 64) 0x7f80_0000 ≡ to_bits binary32 (narrowed (of_bits binary64 m))
 high_is m small large = ap (λ (p : ℕ). min p 0x7f80_0000) (difference (kept m) 0x1_c000_0000 _ refl (kept_small m small) (reached m large)) ∙ sym (normal_magnitude m small large)
 
-pub float_from_bits-sum : goal.float_from_bits-sum
-float_from_bits-sum c = number_of_below binary64 c.args.m (within c.args.m c.requires)
-
-pub float_from_bits-sum-2 : goal.float_from_bits-sum-2
-float_from_bits-sum-2 c = two_to_minus_97.1
+pub float_from_bits-low : goal.float_from_bits-low
+float_from_bits-low c = number_of_below binary64 c.args.m (within c.args.m c.requires)
 
 pub float_to_bits-low : goal.float_to_bits-low
-float_to_bits-low c = sum_number c.args.m c.requires
+unfolding of_bits
+float_to_bits-low c = add_number binary64 (of_bits binary64 c.args.m) _ _ _ (number_of_bits binary64 c.args.m (within c.args.m c.requires))
 
 pub returns-then-m-lt4039728865751334912 : goal.returns-then-m-lt4039728865751334912
 returns-then-m-lt4039728865751334912 c = low_is c.args.m c.if-m-lt4039728865751334912.true
