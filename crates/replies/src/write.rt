@@ -18,7 +18,8 @@ pub fn reply_length(reply: Reply) -> usize
     }
 }
 
-// Puts a reply's answer line at the place `at`, and answers the place after it.
+// Puts a reply's answer line at the place `at`, and answers the place after it. It is a function and no
+// impl of `Text`: a reply is a `Result`, and a crate writes impls of its own traits or for its own types.
 #[tactic(auto, using(crate::proofs::Patterns::answer_pattern_lem), unfolding(crate::specs::Reply::told, crate::specs::Reply::written, crate::specs::Reply::ending))]
 pub fn write_reply(reply: Reply, out: &mut [u8], at: usize) -> usize
     requires { at + length (written (told reply)) ≤ length out.old }
