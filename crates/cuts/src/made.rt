@@ -118,7 +118,8 @@ fn check_sums(seen: &mut Seen) {
     }
 }
 
-// Broken states.
+// Broken states. This and `check_most` are two functions, since they make other checks: with these as a
+// parameter they are no shorter.
 pub(crate) fn check_broken() -> Seen {
     let mut seen = Seen::default();
     check_tails(&mut seen);
@@ -170,7 +171,7 @@ fn check_last(seen: &mut Seen) {
     }
 }
 
-// States at the most lines.
+// States at the most lines. See `check_broken` for why these are two.
 pub(crate) fn check_most() -> Seen {
     let mut seen = Seen::default();
     check_full(&mut seen);

@@ -21,7 +21,8 @@ impl<'a> Given<'a> {
         }
     }
 
-    // Feeds the piece to the first `space` bytes of an output.
+    // Feeds the piece to the first `space` bytes of an output, or to all of it where it has fewer: so
+    // no check has to prove that its space is at most ROOM.
     pub(crate) fn differs(&self, out: &mut [u8], wanted: &Wanted) -> Result<(), Differs> {
         let space = self.space.min(out.len());
         let fed = batch::feed(self.state, self.piece, &mut out[..space]);

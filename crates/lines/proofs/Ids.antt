@@ -1,22 +1,21 @@
 -- The D of a line: digits that are one, and the digits of an id. Assumes nothing.
 use borrow.Author.Tests.{leb-true, ltb-true, ltb-false, eqb-true, eqb-false, le-leb, lt-leb, le-ltb, lt-ltb, eq-eqb, ne_eqb, not-true}
-use mathlib.Core.Path.{◌≡◌, refl, sym, ◌∙◌}
-use mathlib.Core.Bool.{Bool, true, false, not, cond, ◌&&◌, ◌||◌, or-true}
+use mathlib.Core.Path.{◌≡◌, refl, sym, ap, ◌∙◌}
+use mathlib.Core.Bool.{Bool, true, false, not, cond, ◌&&◌, ◌||◌, or-true, and-false}
 use mathlib.Core.Logic.{◌⊎◌, inl, inr, ⊎_elim}
 use mathlib.Core.List.{List, [], ◌∷◌}
 use Prim.Native.Nat.{ℕ, zero, suc, ◌+◌, ◌-◌, ◌*◌, ◌^◌, ◌≤◌, ◌<◌}
 use native.Mathlib.Omega.{arith}
 use native.Mathlib.Nat.{add_comm, le_trans, lt_of_not-le, pow-le-pow_right}
 use lib.Dec.{eqb, ltb, leb, lit<}
-use lib.ListN.{length, get_or, take, drop, drop_of_length-le}
+use lib.ListN.{length, get_or, take, drop, length-drop}
 use Rattle.std.specs.List.{prefix_len, take_while}
-use Rattle.std.specs.Prelude.{Some, None}
 use Rattle.text.specs.Bytes.{all}
 use Rattle.text.specs.Digits.{places, decimal, is_decimal, value, value_from}
 use native.Mathlib.Numerals.{add-one}
-use lib.Seq.{drop-cons}
+use lib.Seq.{drop-drop}
+use Rattle.std.proofs.lemmas.List.Folds.{length-prefix_len}
 use Rattle.text.proofs.Numerals.{both, ten, low_value, at_least, length_decimal, value_digits, digits_value, value_below, places_positive, below_places, one_place, places_of, no_zero_first, least}
-use Rattle.lines.specs.Fields.{said}
 use Rattle.lines.specs.Format.{largest_id, is_d}
 
 -- digits that are a D, and what these are
@@ -74,38 +73,71 @@ module _ (ds : List ℕ) where
 
 pub ruleset d_steps = (no_digit, zero_first, one_digit, more_digits)
 
--- a number and the digits that follow it: one more digit, a number that is too large, and all digits
-all_at : (ds : List ℕ) (i : ℕ) → all is_decimal ds ≡ true → i < length ds → is_decimal (get_or ds i 0) ≡ true
-unfolding all
-all_at [] i a h = absurd (omega arith)
-all_at (b ∷ ds) zero a h = (both (is_decimal b) (all is_decimal ds) a).0
-all_at (b ∷ ds) (suc i) a h = all_at ds i (both (is_decimal b) (all is_decimal ds) a).1 (omega arith)
+-- the digits at the front of a list
+abbrev pub front : List ℕ → List ℕ
+front l = take_while is_decimal l
 
-pub digit_from : (ds : List ℕ) (i : ℕ) → all is_decimal ds ≡ true → i < length ds → 48 ≤ get_or ds i 0
+-- a first byte that is a digit, and one that is none, or no byte
+front_digit : (l : List ℕ) → 1 ≤ length l → 48 ≤ get_or l 0 0 → get_or l 0 0 ≤ 57 → front l ≡ get_or l 0 0 ∷ front (drop 1 l)
 unfolding is_decimal
-digit_from ds i a h = let b = get_or ds i 0 in leb-true 48 b (both (leb 48 b) (leb b 57) (all_at ds i a h)).0
+front_digit [] h lo hi = absurd (omega arith)
+front_digit (b ∷ l) h lo hi = rw (le-leb 48 b lo, le-leb b 57 hi, add_comm 1 (prefix_len is_decimal l), add-one (prefix_len is_decimal l)) refl
 
-digit_to : (ds : List ℕ) (i : ℕ) → all is_decimal ds ≡ true → i < length ds → get_or ds i 0 ≤ 57
+front_none : (l : List ℕ) → (1 ≤ length l → 48 ≤ get_or l 0 0 → get_or l 0 0 ≤ 57 → ⊥) → front l ≡ []
 unfolding is_decimal
-digit_to ds i a h = let b = get_or ds i 0 in leb-true b 57 (both (leb 48 b) (leb b 57) (all_at ds i a h)).1
+front_none [] h = refl
+front_none (b ∷ l) h = go (leb 48 b) (leb b 57) refl refl
+  where
+    go : (s t : Bool) → leb 48 b ≡ s → leb b 57 ≡ t → front (b ∷ l) ≡ []
+    go true true e f = absurd (h (omega arith) (leb-true 48 b e) (leb-true b 57 f))
+    go true false e f = rw (e, f) refl
+    go false t e f = rw e refl
 
-pub next_digit : (ds : List ℕ) (i n : ℕ) → all is_decimal ds ≡ true → i < length ds
-    → value_from 10 (n * 10 + (get_or ds i 0 - 48)) (drop (i + 1) ds) ≡ value_from 10 n (drop i ds)
-unfolding value_from
-next_digit ds i n a h = rw (drop-cons ds i 0 h, add-one i, ← low_value (get_or ds i 0) (digit_to ds i a h)) refl
+-- Some digits of l have been read, which say n, and `rest` follows them.
+pub record Read (l : List ℕ) (n : ℕ) (rest : List ℕ) : Type 0 where
+  pub says : value_from 10 n (front rest) ≡ value 10 (front l)
+  pub follows : drop (length (front rest)) rest ≡ drop (length (front l)) l
+  pub many : length rest + length (front l) ≡ length l + length (front rest)
+  pub within : length rest ≤ length l
+  pub small : n ≤ largest_id
 
-pub too_large : (ds : List ℕ) (i n : ℕ) → all is_decimal ds ≡ true → i < length ds → value_from 10 n (drop i ds) ≡ value 10 ds
-    → largest_id < n * 10 + (get_or ds i 0 - 48) → None ≡ said (leb (value 10 ds) largest_id) (value 10 ds)
-too_large ds i n a h e k =
-    let m = n * 10 + (get_or ds i 0 - 48) in
-    rw (lt-leb (value 10 ds) largest_id (omega (arith, k, e, next_digit ds i n a h, at_least m (drop (i + 1) ds)))) refl
+pub none_read : (l : List ℕ) → Read l 0 l
+unfolding value
+none_read l = record { says = refl; follows = refl; many = refl; within = omega arith; small = omega arith }
 
-pub all_read : (ds : List ℕ) (i n : ℕ) → length ds ≤ i → value_from 10 n (drop i ds) ≡ value 10 ds → n ≤ largest_id
-    → Some n ≡ said (leb (value 10 ds) largest_id) (value 10 ds)
-unfolding value_from
-all_read ds i n h e k = let f : n ≡ value 10 ds = rw (drop_of_length-le ds h) at e in rw (← f, le-leb n largest_id k) refl
+module _ (l : List ℕ) (n : ℕ) (rest : List ℕ) (r : Read l n rest) where
+  -- one more
+  module _ (h : 1 ≤ length rest) (lo : 48 ≤ get_or rest 0 0) (hi : get_or rest 0 0 ≤ 57) where
+    next_says : value_from 10 (n * 10 + (get_or rest 0 0 - 48)) (front (drop 1 rest)) ≡ value 10 (front l)
+    unfolding value_from
+    next_says = rw (← low_value (get_or rest 0 0) hi) (sym (ap (value_from 10 n) (front_digit rest h lo hi)) ∙ r.says)
 
-pub ruleset number_steps = (digit_from, next_digit, too_large, all_read)
+    pub next_read : n * 10 + (get_or rest 0 0 - 48) ≤ largest_id → Read l (n * 10 + (get_or rest 0 0 - 48)) (drop 1 rest)
+    next_read k = record {
+      says = next_says;
+      follows = drop-drop (length (front (drop 1 rest))) 1 rest ∙ ap (λ (m : ℕ). drop m rest) (omega (arith, ap length (front_digit rest h lo hi))) ∙ r.follows;
+      many = omega (arith, r.many, ap length (front_digit rest h lo hi), length-drop 1 rest);
+      within = omega (arith, r.within, length-drop 1 rest);
+      small = k;
+    }
+
+    pub too_large : largest_id < n * 10 + (get_or rest 0 0 - 48) → is_d (front l) ≡ false
+    unfolding is_d
+    too_large k =
+        let v : largest_id < value 10 (front l) = omega (arith, k, next_says, at_least (n * 10 + (get_or rest 0 0 - 48)) (front (drop 1 rest))) in
+        rw (lt-leb (value 10 (front l)) largest_id v) (and-false _)
+
+  -- no more
+  module _ (h : 1 ≤ length rest → 48 ≤ get_or rest 0 0 → get_or rest 0 0 ≤ 57 → ⊥) where
+    pub all_says : value 10 (front l) ≡ n
+    unfolding value_from
+    all_says = sym r.says ∙ ap (value_from 10 n) (front_none rest h)
+
+    pub all_follows : rest ≡ drop (length (front l)) l
+    all_follows = sym (ap (λ d. drop (length d) rest) (front_none rest h)) ∙ r.follows
+
+    pub all_digits : take (length l - length rest) l ≡ front l
+    all_digits = let e : length l - length rest ≡ length (front l) = omega (arith, r.many, ap length (front_none rest h)) in rw (e, length-prefix_len is_decimal l) refl
 
 -- the decimal of an id is a D with its value
 pub value_decimal : (d : ℕ) → d ≤ largest_id → value 10 (decimal d) ≡ d

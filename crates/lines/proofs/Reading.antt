@@ -15,7 +15,6 @@ use Rattle.text.specs.Bytes.{all}
 use Rattle.text.specs.Digits.{is_hex, is_decimal, value}
 use Rattle.std.specs.Prelude.{Ok, Err}
 use Rattle.text.proofs.Numerals.{both}
-use Rattle.lines.proofs.Ids.{digits_tested}
 use Rattle.lines.specs.declared.Refusal.TheVariants.{TooLong, NoId, NoX, NoY}
 use Rattle.lines.specs.Format.{longest, pair, read_line, id_key, x_key, y_key, id_digits, is_d, has_id, after_id, hex_digits, has_hex, has_x, after_x, has_y}
 
@@ -121,14 +120,13 @@ module _ (l rest : List ℕ) (e : rest ≡ drop 3 l) where
   unfolding has_id
   no_id_key h = rw (starts id_key l, h) refl
 
-  module _ (digits : List ℕ) (d : digits ≡ take_while is_decimal rest) where
-    pub ids_are : digits ≡ id_digits l
-    unfolding id_digits
-    ids_are = rw (d, e) refl
+  pub ids_are : take_while is_decimal rest ≡ id_digits l
+  unfolding id_digits
+  ids_are = rw e refl
 
-    pub no_d : is_d digits ≡ false → has_id l ≡ false
-    unfolding has_id
-    no_d h = rw (← ids_are, h, and-false (starts_with eqb l id_key)) refl
+  pub no_d : is_d (take_while is_decimal rest) ≡ false → has_id l ≡ false
+  unfolding has_id
+  no_d h = rw (← ids_are, h, and-false (starts_with eqb l id_key)) refl
 
   module _ (end : List ℕ) (f : end ≡ drop (length (take_while is_decimal rest)) rest) where
     place : drop (3 + length (id_digits l)) l ≡ end
@@ -139,19 +137,15 @@ module _ (l rest : List ℕ) (e : rest ≡ drop 3 l) where
     unfolding has_id
     no_id_space h = rw (spaced l (3 + length (id_digits l)) end (sym place), h) (and-false _)
 
-    pub id_stands : (digits : List ℕ) → digits ≡ take_while is_decimal rest → pointwise eqb (take 3 l) id_key ≡ true → is_d digits ≡ true → pointwise eqb (take 1 end) (32 ∷ []) ≡ true
-        → has_id l ≡ true
+    pub id_stands : pointwise eqb (take 3 l) id_key ≡ true → is_d (take_while is_decimal rest) ≡ true → pointwise eqb (take 1 end) (32 ∷ []) ≡ true → has_id l ≡ true
     unfolding has_id
-    id_stands digits d k h s = rw (spaced l (3 + length (id_digits l)) end (sym place), starts id_key l, k, ← ids_are digits d, h, s) refl
+    id_stands k h s = rw (spaced l (3 + length (id_digits l)) end (sym place), starts id_key l, k, ← ids_are, h, s) refl
 
     pub id_after : (after : List ℕ) → after ≡ drop 1 end → after ≡ after_id l
     unfolding after_id
     id_after after a = rw (a, ← place) (drop-drop 1 (3 + length (id_digits l)) l)
 
-pub all_digits : (digits rest : List ℕ) → digits ≡ take_while is_decimal rest → all is_decimal digits ≡ true
-all_digits digits rest d = rw d (digits_tested rest)
-
-pub ruleset id_steps = (no_id_key, ids_are, no_d, no_id_space, id_stands, id_after, all_digits)
+pub ruleset id_steps = (no_id_key, ids_are, no_d, no_id_space, id_stands, id_after)
 
 -- the line
 module _ (l : List ℕ) where

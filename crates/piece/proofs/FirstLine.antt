@@ -2,10 +2,9 @@
 use Rattle.std.proofs.Common.{◌≡◌, ℕ, ◌+◌, ◌≤◌, List, [], ◌∷◌, ◌++◌, length, take, drop, sym, ap, ◌∙◌, arith, length-append, zero-add}
 use lib.Seq.{take_all}
 use Rattle.replies.specs.Reply.{Told, reply_to, written}
-use Rattle.state.specs.declared.Carried.{Carried}
 use Rattle.scan.specs.Complete.{lines_from, lines, line_end}
 use Rattle.state.specs.Holding.{kept}
-use Rattle.state.specs.Carry.{carry_on}
+use Rattle.state.specs.Carry.{carry_on, carry_end}
 use Rattle.state.specs.Tally.{none, plus}
 use Rattle.piece.specs.Counts.{one, counts}
 use Rattle.piece.specs.Piece.{replies, joined, answer_lines, FirstReply, NoneEnds}
@@ -13,37 +12,37 @@ use Rattle.std.specs.List.{flat_map}
 use Rattle.scan.proofs.Cutting.{FirstLine, NoLine, no_line, first_line, line_end_within}
 use Rattle.piece.proofs.Replied.{reply_kept}
 
--- `line` is what is held, `so`, carried on from the start of p
-module _ (so p : List ℕ) (line : Carried) (e : line ≡ carry_on so p 0) where
-  its_end : line.end ≡ line_end p
-  unfolding carry_on
-  its_end = ap (λ (k : Carried). k.end) e ∙ zero-add (line_end p)
+-- `line` is what is held, `so`, carried on from the start of p up to `end`
+module _ (so p line : List ℕ) (end : ℕ) (e : line ≡ carry_on so p 0) (f : end ≡ carry_end p 0) where
+  its_end : end ≡ line_end p
+  unfolding carry_end
+  its_end = f ∙ zero-add (line_end p)
 
-  its_held : line.held ≡ kept (so ++ take line.end p)
+  its_held : line ≡ kept (so ++ take end p)
   unfolding carry_on
-  its_held = ap (λ (k : Carried). k.held) e ∙ ap (λ (k : ℕ). kept (so ++ take k p)) (sym its_end)
+  its_held = e ∙ ap (λ (k : ℕ). kept (so ++ take k p)) (sym its_end)
 
   -- it stops within the piece
-  pub end_within : line.end ≤ length p
+  pub end_within : end ≤ length p
   end_within = omega (arith, its_end, line_end_within p)
 
   -- it stops at the end
-  pub none_ends : length p ≤ line.end → NoneEnds so p line.held
+  pub none_ends : length p ≤ end → NoneEnds so p line
   none_ends h =
       let n : NoLine so p = no_line p so (omega (arith, its_end, line_end_within p)) in
       record {
         no_lines = n.no_lines;
-        all_left = its_held ∙ ap (λ (k : List ℕ). kept (so ++ k)) (take_all line.end p h) ∙ ap kept (sym n.all_rest);
+        all_left = its_held ∙ ap (λ (k : List ℕ). kept (so ++ k)) (take_all end p h) ∙ ap kept (sym n.all_rest);
         no_feeds = n.no_feeds;
       }
 
   -- it stops at a line feed, and `others` follow
-  pub first_reply : (b : ℕ) (others : List ℕ) (r : Told) → drop line.end p ≡ b ∷ others → r ≡ reply_to line.held → FirstReply so p r others
+  pub first_reply : (b : ℕ) (others : List ℕ) (r : Told) → drop end p ≡ b ∷ others → r ≡ reply_to line → FirstReply so p r others
   unfolding replies
   first_reply b others r h a =
       let f : FirstLine so p (take (line_end p) p) others = first_line p so b others (rw its_end at h) in
       record {
-        its_replies = ap replies f.its_lines ∙ ap (λ (k : Told). k ∷ replies (lines others)) (sym (a ∙ ap reply_to its_held ∙ reply_kept (so ++ take line.end p) ∙ rw its_end));
+        its_replies = ap replies f.its_lines ∙ ap (λ (k : Told). k ∷ replies (lines others)) (sym (a ∙ ap reply_to its_held ∙ reply_kept (so ++ take end p) ∙ rw its_end));
         its_rest = f.its_rest;
         its_feeds = f.its_feeds;
       }

@@ -60,7 +60,8 @@ fn state_of(held: Held, tallies: Tallies) -> State
     }
 }
 
-// Answers the complete lines of some bytes.
+// Answers the complete lines of some bytes. It is no impl of `Text`, since it gives more than the place
+// after the bytes written.
 fn answer_lines<'a>(
     bytes: &'a [u8],
     mut tallies: Tallies,

@@ -15,23 +15,22 @@ pub(crate) struct First<'a> {
 }
 
 // The first line that ends in a piece; or, where none does, what is held then.
-#[tactic(auto, using(crate::proofs::FirstLine::end_within))]
 pub(crate) fn first_reply<'a>(held: Held, piece: &'a [u8]) -> Result<First<'a>, Held>
     ensures { MatchResult result
         (λ first. FirstReply held piece.entry.now (told first.reply) first.others.now)
         (λ left. NoneEnds held piece.entry.now left) }
 {
-    let unread = Piece {
+    let mut unread = Piece {
         bytes: piece,
         at: 0,
     };
     let line = unread.carry(held);
-    match piece[line.end..].split_first() {
+    match unread.rest().split_first() {
         Some((_, others)) => Ok(First {
-            reply: reply_to_held(&line.held),
+            reply: reply_to_held(&line),
             others,
         }),
-        None => Err(line.held),
+        None => Err(line),
     }
 }
 

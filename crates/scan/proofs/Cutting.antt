@@ -1,14 +1,9 @@
 -- Complete lines and the unfinished tail: cut at the first line feed, and cut anywhere. Assumes nothing.
-use Rattle.std.proofs.Common.{◌≡◌, ℕ, suc, ◌+◌, ◌-◌, ◌≤◌, Bool, true, false, not, cond, List, [], ◌∷◌, ◌++◌, length, take, drop, eqb, refl, sym, ◌∙◌, arith, append-nil}
+use Rattle.std.proofs.Common.{◌≡◌, ℕ, suc, ◌+◌, ◌≤◌, Bool, true, false, not, cond, List, [], ◌∷◌, ◌++◌, length, take, drop, eqb, refl, sym, ◌∙◌, arith, append-nil}
 use lib.Seq.{append_snoc, drop-nil}
 use Rattle.std.proofs.lemmas.List.Sums.{count_by-le-length, prefix_len-le-length, sum_by-append, sum_by-cons}
 use Rattle.std.proofs.lemmas.Bool.Decides.{nat_tests}
-use Rattle.std.proofs.lemmas.Grind.{common_steps}
 use Rattle.scan.specs.Complete.{line_feed, lines_from, rest_from, lines, rest, feeds, line_end}
-
--- the part of a piece from a place to its end
-pub to_end : (p : List ℕ) (from : ℕ) → take (length p - from) (drop from p) ≡ drop from p
-to_end p from = grind (arith, common_steps)
 
 -- a line's end lies within the list, and there are no more line feeds than bytes
 pub line_end_within : (l : List ℕ) → line_end l ≤ length l

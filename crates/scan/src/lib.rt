@@ -43,12 +43,11 @@ fn first_feed(s: &[u8]) -> usize
     s.iter().position(|b| *b == b'\n').unwrap_or(s.len())
 }
 
-// The place of the first line feed from `from` on, or the length where there is none.
+// The place of the first line feed, or the length where there is none.
 #[tactic(auto, using(crate::proofs::Cutting::line_end_within))]
-pub fn line_end(s: &[u8], from: usize) -> usize
-    requires { from ≤ length s.now }
-    ensures { result ≡ from + line_end (drop from s.now) }
+pub fn line_end(s: &[u8]) -> usize
+    ensures { result ≡ line_end s.now }
 {
-    let near = from + near_feed(&s[from..]);
+    let near = near_feed(s);
     near + first_feed(&s[near..])
 }

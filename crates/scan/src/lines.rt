@@ -19,7 +19,7 @@ impl<'a> Iterator for Lines<'a> {
     ghost remaining = { item_count (λ s. lines s.rest.now) };
 
     fn next(&mut self) -> Option<&'a [u8]> {
-        let (line, after) = self.rest.split_at(line_end(self.rest, 0));
+        let (line, after) = self.rest.split_at(line_end(self.rest));
         let (_, rest) = after.split_first()?;
         self.rest = rest;
         Some(line)

@@ -2,8 +2,11 @@
 use Rattle.std.specs.Prelude.{ℕ, ◌+◌, List, ◌++◌, take, drop}
 use Rattle.scan.specs.Complete.{line_end}
 use Rattle.state.specs.Holding.{kept}
-use Rattle.state.specs.declared.Carried.{Carried}
 
--- the line held, and after it the bytes of the piece p from a position up to the next line feed, or up to the end; and where that is
-unfoldable pub carry_on : List ℕ → List ℕ → ℕ → Carried
-carry_on line p at = record { held = kept (line ++ take (line_end (drop at p)) (drop at p)); end = at + line_end (drop at p) }
+-- the line held, and after it the bytes of the piece p from a position up to the next line feed, or up to the end
+unfoldable pub carry_on : List ℕ → List ℕ → ℕ → List ℕ
+carry_on line p at = kept (line ++ take (line_end (drop at p)) (drop at p))
+
+-- and where that is
+unfoldable pub carry_end : List ℕ → ℕ → ℕ
+carry_end p at = at + line_end (drop at p)

@@ -1,6 +1,7 @@
 // The reader's state, carried from one piece of input to the next: the unfinished line, the lines so
-// far and the tallies. Here are the state before the first piece, the test of cause 5, and how a piece
-// carries on the line that the tail holds. What a state holds is defined in specs/Holding.antt.
+// far and the tallies. Here are the state before the first piece and the test of cause 5; in carry.rt
+// is how a piece carries on the line that the tail holds. What a state holds is defined in
+// specs/Holding.antt.
 #![tactic(auto)]
 
 mod carry;
@@ -49,14 +50,6 @@ pub struct State {
     pub tail: Tail,
     pub lines: u32,
     pub tallies: Tallies,
-}
-
-// A line that was carried on: what is held then, and the position where it stopped, at a line feed or
-// at the end of the piece.
-#[derive(Clone, Copy)]
-pub struct Carried {
-    pub held: Held,
-    pub end: usize,
 }
 
 impl State {

@@ -1,5 +1,5 @@
--- Lists of bytes: text put at a place of a list, what a list begins with, and a test over its elements.
-use Rattle.std.specs.Prelude.{ℕ, ◌+◌, Bool, true, false, ◌&&◌, cond, List, [], ◌∷◌, ◌++◌, Option, Some, None, eqb, length, take, drop}
+-- Lists of bytes: text put at a place of a list, and a test over its elements.
+use Rattle.std.specs.Prelude.{ℕ, ◌+◌, Bool, true, ◌&&◌, List, [], ◌∷◌, ◌++◌, Option, Some, None, length, take, drop}
 
 -- the list `out` with `text` in the places from `at` on
 unfoldable pub put : List ℕ → ℕ → List ℕ → List ℕ
@@ -10,18 +10,7 @@ unfoldable pub if_some : {A : Type 0} → (A → List ℕ) → Option A → List
 if_some bytes None = []
 if_some bytes (Some text) = bytes text
 
--- whether a list begins with `front`
-unfoldable pub begins : List ℕ → List ℕ → Bool
-begins [] l = true
-begins (b ∷ front) [] = false
-begins (b ∷ front) (c ∷ l) = eqb b c && begins front l
-
 -- whether a test holds of every element
 unfoldable pub all : (ℕ → Bool) → List ℕ → Bool
 all test [] = true
 all test (b ∷ l) = test b && all test l
-
--- the elements at the front, as far as a test holds
-unfoldable pub leading : (ℕ → Bool) → List ℕ → List ℕ
-leading test [] = []
-leading test (b ∷ l) = cond (test b) (b ∷ leading test l) []
