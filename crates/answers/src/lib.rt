@@ -8,7 +8,7 @@ ghost use Rattle.answers.specs.Reached.{Reached};
 
 // The three claims, for the pair of patterns nx and ny, and that t is a number, no index is cut and no
 // k is. There is nothing to run: the contract is the theorem, and whoever calls this has it for their
-// pair.
+// pair. The two patterns are those of `f_compoundf`.
 pub fn every_answer(nx: u32, ny: u32)
     ensures claims { Claims nx ny }
     ensures reached { Reached nx ny }

@@ -27,7 +27,7 @@ pub enum Route {
 }
 
 impl Route {
-    // Its name.
+    // Its name. It is no `Display`: the name is put into answer lines as bytes, and its length is asked for.
     #[tactic(auto, unfolding(crate::specs::Answer::word))]
     pub fn word(self) -> &'static str
         ensures { result.now ≡ word self }
@@ -85,8 +85,9 @@ impl Answer {
     }
 }
 
-// (1 + x)^y, for the f32s x and y of the patterns nx and ny. Each function that takes them takes two
-// numbers, since C hands them so.
+// (1 + x)^y, for the f32s x and y of the patterns nx and ny. They are two parameters, here and in what
+// is called with them, as in the source and as C hands them: of a struct of two such numbers nothing
+// could be said.
 #[tactic(auto, unfolding(crate::specs::Answer::outcome, crate::specs::Route::compound))]
 pub fn f_compoundf(nx: u32, ny: u32) -> Answer
     ensures { outcome result ≡ spec.compound (of_bits binary32 nx) (of_bits binary32 ny) }

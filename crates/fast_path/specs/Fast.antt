@@ -52,7 +52,7 @@ inverse_place t = to_bits binary64 (t ⊕ f64 0x4000000000000000) / 2 ^ 45
 unfoldable pub inverse_index : Float → ℕ
 inverse_index t = inverse_place t - 0x2002d
 
--- t has an inverse in the table. The t of every pair has (`reduced_index` in proofs/Index.antt, and `accurate_index` in proofs/Scaled.antt for the
+-- t has an inverse in the table. The t of every pair has (`reduced_index` in proofs/Index.antt, and `accurate_index` in slow_path/proofs/Scaled.antt for the
 -- slow path).
 abbrev pub HasInverse : Float → Type 0
 HasInverse t = (0x2002d ≤ inverse_place t) × (inverse_index t < 46)

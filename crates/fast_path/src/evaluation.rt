@@ -39,8 +39,8 @@ pub fn factor<M: MulAdd>(z: f64) -> f64
     M::mul_add(c5, z4, c1)
 }
 
-// Near log2(1 + x). That x is above -1 is asked for here, and in three functions over this one: a `Base`
-// would ask that it is a finite f32's too.
+// Near log2(1 + x). That x is above -1 is asked for here and in `compoundf_log2p1_fast`: a `Base` would
+// ask that it is a finite f32's too.
 #[tactic(auto, using(crate::proofs::OnePlus::one_plus), unfolding(crate::specs::Fast::log2p1))]
 pub fn log2p1<M: MulAdd>(x: f64) -> f64
     requires { T (lt minus_one x) }

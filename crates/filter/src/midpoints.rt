@@ -13,7 +13,8 @@ pub fn clear_of_midpoints(w: u64, margin: u64) -> bool
 }
 
 // The f32 that the pattern w is rounded to, where every midpoint of two f32s is further than that. The
-// exponents' fields differ by 896 * 2^23.
+// exponents' fields differ by 896 * 2^23. `narrow_number` is not called: it looks for ties, subnormals
+// and an overflow, and there are none here.
 #[tactic(auto, using(crate::proofs::Accepted::left_number), unfolding(crate::specs::Midpoints::narrowed_pattern))]
 pub fn narrowed_pattern(w: u64, margin: u64) -> Option<f32>
     requires w_least { 898 * 2 ^ 52 ≤ w }

@@ -1,16 +1,22 @@
 -- Document 01, "Widening, narrowing, nearest whole". Each is fixed by its value for every pattern. Widening needs no definition: an f32 and
 -- the f64 of the same value are the same `Float`.
-use Rattle.std.specs.Prelude.{◌≡◌, ℕ, ◌-◌, ◌*◌, ◌^◌, ◌<◌, ◌≤◌, false, T, Float}
+use Rattle.std.specs.Prelude.{◌≡◌, ℕ, ◌-◌, ◌*◌, ◌^◌, ◌<◌, ◌≤◌, false, T, to_bits, Float}
 use Rattle.std.specs.Float.{nan, inf, fin, binary32, binary64}
 use Rattle.std.specs.Float.Ieee.{up, down, round}
 use Rattle.std.specs.Float.Ieee.Nearest.{closest}
 use Rattle.std.specs.Float.Ieee.Scale.{finite}
+use Rattle.floats.specs.Operations.{◌⊕◌, f64}
 
 -- "Narrowing f64 to f32 is nearest, ties to even, with subnormals and overflow to infinity": the exact value, rounded once to binary32
 unfoldable pub narrowed : Float → Float
 narrowed nan = nan
 narrowed (inf s) = inf s
 narrowed (fin s m e) = round binary32 s (m * up e) (down e)
+
+-- The pattern of the f64 of the pattern w plus 2^-97. It stands in no document; it is how a value below the normal f32s is rounded. The last place of the sum is that of an f32
+-- below 2^-126, so what the pattern has over that of 2^-97 is the f32's (`low_pattern` in proofs/Laws/Narrow.antt).
+unfoldable pub subnormal_sum : ℕ → ℕ
+subnormal_sum w = to_bits binary64 (f64 w ⊕ f64 0x39e0000000000000)
 
 -- "Nearest f32 to a positive fraction, as in demand 3, is the same rule over whole numbers": to a / c
 unfoldable pub nearest_f32 : ℕ → ℕ → Float

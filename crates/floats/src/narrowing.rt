@@ -2,11 +2,10 @@
 // worked out from the bits.
 ghost use Rattle.std.specs.Prelude.{◌≡◌, ◌≤◌, not, T, from_bits, is_nan, to_bits};
 ghost use Rattle.std.specs.Float.{binary32, binary64};
-ghost use Rattle.floats.specs.Narrowing.{narrowed, NearestF32Ends};
+ghost use Rattle.floats.specs.Narrowing.{narrowed, subnormal_sum, NearestF32Ends};
 
-// 2^-97. The last place of an f64 from there to 2^-96 is 2^-149, and so is that of an f32 below 2^-126: a
-// sum with 2^-97 is rounded where the f32 is, and its pattern less that of 2^-97 is the f32's.
-pub const OFFSET: f64 = f64::from_bits(OFFSET_BITS);
+// 2^-97, and its pattern.
+const OFFSET: f64 = f64::from_bits(OFFSET_BITS);
 
 pub const OFFSET_BITS: u64 = 0x39e0_0000_0000_0000;
 
@@ -35,6 +34,17 @@ pub fn narrow_number(x: f64) -> f32
     f32::from_bits((n / 0x8000_0000_0000_0000 * 0x8000_0000 + p) as u32)
 }
 
+// The pattern of the sum of 2^-97 and the f64 of the pattern m. The last place of an f64 from 2^-97 to
+// 2^-96 is 2^-149, and so is that of an f32 below 2^-126: for an m below 2^-126 the sum is rounded where
+// the f32 is, and its pattern less that of 2^-97 is the f32's.
+#[tactic(auto, unfolding(crate::specs::Narrowing::subnormal_sum))]
+pub fn subnormal_sum(m: u64) -> u64
+    requires { m ≤ 0x7ff0_0000_0000_0000 }
+    ensures { result ≡ subnormal_sum m }
+{
+    f64::to_bits(f64::from_bits(m) + OFFSET)
+}
+
 // The pattern of the narrowed value, for the pattern m of an f64 that is no NaN and whose sign is
 // clear. Two patterns are worked out, one for values below 2^-126 and one for those from it up, and
 // the right one is taken: both are whole before the test, so that the compiler makes no branch of it.
@@ -42,7 +52,7 @@ fn narrow_magnitude(m: u64) -> u64
     requires { m ≤ 0x7ff0_0000_0000_0000 }
     ensures { result ≡ to_bits binary32 (narrowed (from_bits binary64 m)) }
 {
-    let low = f64::to_bits(f64::from_bits(m) + OFFSET).wrapping_sub(OFFSET_BITS);
+    let low = subnormal_sum(m).wrapping_sub(OFFSET_BITS);
     // Of the 52 digits 23 are kept: add half a last place less one, and one more if the last kept
     // digit is odd, and cut. A carry runs into the exponent's field, which is less by 896.
     let kept = (m + 0xfff_ffff + m / 0x2000_0000 % 2) / 0x2000_0000;

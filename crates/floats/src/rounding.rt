@@ -8,8 +8,8 @@ ghost use Rattle.floats.specs.OnBits.{absolute};
 ghost use Rattle.floats.specs.Operations.{◌⊕◌};
 
 // The whole f64 nearest to x, ties to even, the sign of zero kept. An infinity and a NaN stay. The
-// library's `f64::round_ties_even` has the same values, but takes twice as long: it makes tests of
-// floats to take the sign off and to put it back.
+// library's `f64::round_ties_even` has the same values, but takes twice as long, and longer than the
+// source's: it makes tests of floats to take the sign off and to put it back.
 pub fn round_ties_even(x: f64) -> f64
     ensures { result ≡ nearest_whole x }
 {

@@ -19,15 +19,17 @@ fn is_moderate(x: f64) -> bool
     is_within(x, f64::from_bits(0x58f0_0000_0000_0000))
 }
 
+// 2^-52 + 2^-61.
+const RELATIVE_PART: f64 = f64::from_bits(0x3cb0_0800_0000_0000);
+
+// 2^-900, for a product that underflows.
+const ABSOLUTE_PART: f64 = f64::from_bits(0x07b0_0000_0000_0000);
+
 // A bound on the lo of Dekker's product, from the rounded product h.
 fn lo_bound(h: f64) -> f64
-    requires { T (not (is_nan h)) }
     ensures { result ≡ spec.lo_bound h }
 {
-    // |h| by the pattern: that is one instruction here, and the library's `abs` is six
-    let size = f64::from_bits(f64::to_bits(h) % 0x8000_0000_0000_0000);
-    // 2^-52 + 2^-61, and 2^-900 where the product underflows
-    size * f64::from_bits(0x3cb0_0800_0000_0000) + f64::from_bits(0x07b0_0000_0000_0000)
+    h.abs() * RELATIVE_PART + ABSOLUTE_PART
 }
 
 // Whether s stays as it is when e and anything from -d to d are added to it.

@@ -5,13 +5,13 @@ use Rattle.std.proofs.lemmas.Option.{cond_some}
 use lib.Ieee.{Float, binary32, binary64, is_nan, nan_bits, of_bits}
 use lib.Ieee.Bits.{nan_bits_is, of_bits-fits, of_bits-to_bits}
 use Rattle.floats.specs.Operations.{f64}
-use Rattle.floats.specs.Narrowing.{narrowed}
+use Rattle.floats.specs.Narrowing.{narrowed, subnormal_sum}
 use Rattle.std.proofs.lemmas.Float.{not_nan_f64_bits}
 use Rattle.floats.proofs.Laws.Narrow.{low_finite, low_sum_over, low_pattern, pattern_fits, pattern_number, narrowed_fits}
 use Rattle.floats.proofs.Laws.Sums.{sum_patterns_mono}
 use Rattle.fast_path.specs.Scaling.{scaled}
 use Rattle.filter.proofs.Power.{Unscaled}
-use Rattle.slow_filter.specs.Subnormal.{BelowNormal, subnormal_sum, rounded_subnormal, subnormal_found}
+use Rattle.slow_filter.specs.Subnormal.{BelowNormal, rounded_subnormal, subnormal_found}
 
 -- ---- a pattern from 1/2 to 2, scaled by 2^k for a k from -150 to -127: nothing wraps
 scaled_is : (b n : ℕ) → Unscaled b → n < 150 → scaled b (negsuc n) ≡ b - suc n * 2 ^ 52

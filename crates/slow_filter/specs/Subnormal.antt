@@ -1,19 +1,15 @@
 -- Rounding the plain value below the normal f32s. It stands in no document; the theorem says when the slow path's value rounds to the same
 -- (`subnormal` in proofs/Subnormal.antt).
 use Rattle.std.specs.Prelude.{ℕ, ◌+◌, ◌-◌, ◌^◌, ◌≤◌, ◌<◌, cond, eqb, Option, Some, None, ℤ, pos, negsuc, Float}
-use Rattle.std.specs.Float.{binary32, binary64}
-use Rattle.std.specs.Float.Ieee.{to_bits, of_bits}
-use Rattle.floats.specs.Operations.{◌⊕◌, f64}
+use Rattle.std.specs.Float.{binary32}
+use Rattle.std.specs.Float.Ieee.{of_bits}
+use Rattle.floats.specs.Narrowing.{subnormal_sum}
 use Rattle.fast_path.specs.Scaling.{scaled}
 
 -- k is from -150 to -127: a value from 1/2 to 2 times 2^k is from 2^-151 to 2^-126
 abbrev pub BelowNormal : ℤ → Type 0
 BelowNormal (pos n) = ⊥
 BelowNormal (negsuc n) = (126 ≤ n) × (n < 150)
-
--- the pattern of the f64 of the pattern w plus 2^-97. The last place of the sum is that of an f32 below 2^-126, so what the pattern has over that of 2^-97 is the f32's
-unfoldable pub subnormal_sum : ℕ → ℕ
-subnormal_sum w = to_bits binary64 (f64 w ⊕ f64 0x39e0000000000000)
 
 -- the pattern w, scaled: where 2^25 less and 2^25 more are rounded to one f32, it is the answer; else nothing is sure
 unfoldable pub rounded_subnormal : ℕ → Option Float

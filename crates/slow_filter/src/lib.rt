@@ -20,9 +20,9 @@ use filter::is_below_normal;
 use filter::midpoints::narrowed_pattern;
 use filter::plain::Plain;
 use filter::split::Split;
-use floats::narrowing::{OFFSET, OFFSET_BITS};
+use floats::narrowing::{OFFSET_BITS, subnormal_sum};
 use slow_path::compoundf_accurate;
-use special::operands::Operands;
+use special::operands::{Base, Operands};
 use tables::{PolyQ2, Table};
 
 // 2^-27: further than this from a switch of k or of the index, the slow path's own t is on the same side
@@ -39,15 +39,6 @@ const KEPT_FROM: f64 = f64::from_bits(0x3e20_0000_0000_0000);
 const NEXT_FROM: f64 = f64::from_bits(0x3e60_0000_0000_0000);
 
 const NEXT_TO: f64 = f64::from_bits(0x3ef0_0000_0000_0000);
-
-// The pattern of the sum of the pattern w and 2^-97.
-#[tactic(auto, unfolding(crate::specs::Subnormal::subnormal_sum))]
-fn subnormal_sum(w: u64) -> u64
-    requires { w < 898 * 2 ^ 52 }
-    ensures { result ≡ spec.subnormal_sum w }
-{
-    f64::to_bits(f64::from_bits(w) + OFFSET)
-}
 
 // The answer of the scaled pattern w, from 2^-151 to 2^-126, where no midpoint of two f32s is within 2^25
 // of it.
@@ -96,10 +87,10 @@ fn near_one_found(t: f64) -> Option<f32>
 }
 
 // The plain logarithm of 1 + x.
-fn plain_log(x: f64) -> f64
-    requires { T (lt minus_one x) }
-    ensures { result ≡ plain.plain_log x }
+fn plain_log(base: Base) -> f64
+    ensures { result ≡ plain.plain_log base.x }
 {
+    let x = base.x;
     if x.abs() >= KEPT_FROM {
         log2p1::<Plain>(x)
     } else {
@@ -126,14 +117,13 @@ fn next_to_one(y: f64, t: f64) -> bool
 
 // What the plain evaluation finds of x and y.
 #[tactic(auto, unfolding(crate::specs::Plain::plain_slow, crate::specs::Plain::in_reach, crate::specs::Plain::next_to_one))]
-fn plain_slow(x: f64, y: f64) -> Option<f32>
-    requires { T (lt minus_one x) }
-    ensures { result ≡ plain.plain_slow x y }
+fn plain_slow(pair: Operands) -> Option<f32>
+    ensures { result ≡ plain.plain_slow pair.x pair.y }
 {
-    let t = plain_log(x) * y;
-    if in_reach(y, t) {
+    let t = plain_log(pair.base()) * pair.y;
+    if in_reach(pair.y, t) {
         subnormal_power(t)
-    } else if next_to_one(y, t) {
+    } else if next_to_one(pair.y, t) {
         near_one_found(t)
     } else {
         None
@@ -144,5 +134,5 @@ fn plain_slow(x: f64, y: f64) -> Option<f32>
 pub fn slow_answer(pair: Operands) -> f32
     ensures { result ≡ compoundf_accurate pair.x pair.y }
 {
-    plain_slow(pair.x, pair.y).unwrap_or_else(|| compoundf_accurate(pair.base(), pair.y))
+    plain_slow(pair).unwrap_or_else(|| compoundf_accurate(pair.base(), pair.y))
 }

@@ -1,5 +1,5 @@
 // The special operands: a translation of `as_compoundf_special` of pxfm 0.1.30 (NOTICE), and the test
-// for them that `f_compoundf` makes.
+// for them that `f_compoundf` makes. x and y are two parameters, as in the source.
 #![tactic(auto)]
 
 ghost use Rattle.std.specs.Prelude.{◌≡◌, ◌<◌, ◌≤◌};

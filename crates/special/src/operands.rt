@@ -22,7 +22,7 @@ pub struct Operands {
 }
 
 impl Operands {
-    // Those of the patterns nx and ny.
+    // Those of the patterns nx and ny, which are two parameters up to here, as in the source.
     pub fn widened(nx: u32, ny: u32) -> Self
         requires { Tabled (of_bits binary32 nx) (of_bits binary32 ny) }
         ensures x { result.x ≡ of_bits binary32 nx }

@@ -6,7 +6,7 @@ use lib.Ieee.{Float, binary64, fits}
 use Rattle.double_double.specs.declared.DoubleDouble.{DoubleDouble}
 use Rattle.std.proofs.lemmas.Float.{T_from_true}
 use Rattle.fmla.specs.Fmla.{is_moderate, stays}
-use Rattle.fmla.proofs.Settled.{product_number, settled}
+use Rattle.fmla.proofs.Settled.{settled}
 use Rattle.fmla.proofs.fmla.Goals as goal
 use Rattle.fmla.proofs.fmla.Goals.{Then-is_moderate-2}
 
@@ -23,9 +23,6 @@ module _ (c : Then-is_moderate-2) where
 
   b_fits : T (fits binary64 c.args.b)
   b_fits = passes _ c.well_formed.1.0.1
-
-pub lo_bound-requires : goal.lo_bound-requires
-lo_bound-requires c = product_number _ _ (a_fits (goal.at.lo_bound-requires c).Then-is_moderate-2) (b_fits (goal.at.lo_bound-requires c).Then-is_moderate-2) (a_moderate (goal.at.lo_bound-requires c).Then-is_moderate-2) (b_moderate (goal.at.lo_bound-requires c).Then-is_moderate-2)
 
 pub returns-then-stays : goal.returns-then-stays
 returns-then-stays c =
