@@ -1,9 +1,9 @@
 -- What passes the tests of `fmla` is what `dd_fmla` gives (`settled`). Rounding keeps the order, so for a lo from -d to d the definition's (lo + e) + s is at most (d + e) + s and at least (e - d) + s,
 -- and where the first is no more than s and the last no less, it is s. A NaN or an infinity does not pass, and s is not 0, since d would have moved it. Assumes nothing.
-use mathlib.Core.Path.{◌≡◌, refl, sym, ◌∙◌, subst}
+use mathlib.Core.Path.{◌≡◌, refl, ◌∙◌, subst}
 use mathlib.Core.Logic.{◌⊎◌, inl, inr}
 use mathlib.Core.Bool.{Bool, true, false, not}
-use Prim.Native.Nat.{ℕ, zero, suc, ◌+◌, ◌*◌, ◌≤◌, ◌<◌}
+use Prim.Native.Nat.{ℕ, zero, suc, ◌+◌, ◌≤◌, ◌<◌}
 use native.Mathlib.Nat.{zero-lt-suc}
 use native.Mathlib.Omega.{arith}
 use lib.Dec.{T, leb, leb→le, nleb→lt}
@@ -12,9 +12,8 @@ use lib.Ieee.Fits.{and_l, and_r, add-fits}
 use lib.Ieee.Scale.{finite}
 use Rattle.floats.specs.Operations.{◌⊕◌, ◌⊖◌, ◌⊗◌}
 use Rattle.floats.proofs.Laws.Sums.{add_turned}
-use Rattle.floats.proofs.Laws.Units.{round_number}
 use Rattle.double_double.specs.DoubleDouble.{from_exact_mult, from_full_exact_add, full_add_f64, dd_fmla}
-use Rattle.bounds.proofs.Values.{per_one, plus, less, mag, one_side, Number, neg_plus, neg_less, neg_number, product_in_units}
+use Rattle.bounds.proofs.Values.{plus, less, mag, one_side, Number, neg_plus, neg_less, neg_number}
 use Rattle.bounds.proofs.Operation.{Same, add_exact}
 use Rattle.bounds.proofs.Compared.{le_units, le_of_units}
 use Rattle.fmla.specs.Fmla.{is_moderate, lo_bound, stays}
@@ -158,12 +157,6 @@ module _ (s e d L : Float) (p : Number s) (q : Number e) (w : Within L d) (upper
       same p n q m (inr a) (inr b) g h = (omega arith, omega arith)
 
 -- ---- the two together
--- the rounded product is a number
-pub product_number : (a b : Float) → T (fits binary64 a) → T (fits binary64 b) → T (is_moderate a) → T (is_moderate b) → T (not (is_nan (a ⊗ b)))
-product_number a b f g p q =
-    let r = product_in_units a b (moderate_sized a f p).number (moderate_sized b g q).number in
-    subst (λ (x : Float). T (not (is_nan x))) (sym r.is) (round_number binary64 r.sign (mag a * mag b) (per_one * per_one))
-
 error_fits : (h c s : Float) → T (fits binary64 (sum_error h c s))
 error_fits h c s = add-fits binary64 (c ⊖ (s ⊖ h)) (h ⊖ (s ⊖ (s ⊖ h)))
 

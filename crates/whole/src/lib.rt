@@ -62,7 +62,7 @@ pub fn whole(x: f32, y: f32) -> f32
 {
     let tiny = (f32::to_bits(x) % 0x8000_0000 <= 0x3100_0000) as u32;
     let ny = f32::to_bits(y);
-    let n = f32::from_bits(ny % 0x8000_0000) as u32;
+    let n = y.abs() as u32;
     let acc = squarings(x as f64 + 1.0, n * (1 - tiny));
     // acc / 1, or 1 / acc where y is below 0
     let below = ny / 0x8000_0000;

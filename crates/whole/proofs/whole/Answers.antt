@@ -6,10 +6,10 @@ use lib.Ieee.Bits.{to_bits-lt}
 use lib.Ieee.Fits.{and_i, add-fits, fits_widens}
 use denote.Floats.{passes}
 use mir.Val.{bool_byte}
+use Rattle.std.specs.Float.{float_with_sign}
 use Rattle.floats.specs.Operations.{◌⊕◌, ◌⊘◌}
 use Rattle.floats.specs.Narrowing.{narrowed}
-use Rattle.floats.specs.OnBits.{absolute}
-use Rattle.floats.proofs.Laws.Magnitude.{absolute_of_bits, magnitude_number}
+use Rattle.floats.proofs.Laws.Magnitude.{sign_off}
 use Rattle.floats.proofs.Laws.Sums.{add_number}
 use Rattle.special.specs.Special as Special
 use Rattle.whole.specs.Whole as spec
@@ -42,11 +42,8 @@ module _ (c : Start) where
   y_fits : T (fits binary32 y)
   y_fits = passes _ c.well_formed.1.0.1
 
-  size : of_bits binary32 (to_bits binary32 y % 2 ^ 31) ≡ absolute y
-  size = absolute_of_bits binary32 y y_fits
-
-  castable : T (in_unsigned binary32 32 (of_bits binary32 (to_bits binary32 y % 2 ^ 31)))
-  castable = rw size (castable_exponent x y c.requires)
+  castable : (a : Float) → a ≡ float_with_sign false y → T (in_unsigned binary32 32 a)
+  castable a e = rw (e ∙ sign_off y) (castable_exponent x y c.requires)
 
   widens : T (fits binary64 x && not (is_nan x))
   widens = and_i (fits binary64 x) (not (is_nan x)) (fits_widens _ x_fits) (number_x x y c.requires)
@@ -56,19 +53,18 @@ module _ (c : Start) where
   sum_number = add_number binary64 x false 1 (pos 0) (number_x x y c.requires)
 
   -- the exponent, as the code has it
-  counted : to_unsigned 32 (of_bits binary32 (to_bits binary32 y % 2 ^ 31)) * (1 - bool_byte (leb (to_bits binary32 x % 2 ^ 31) 0x3100_0000)) ≡ exponent x y
-  counted = ap₂ (λ (a : Float) (b : Bool). to_unsigned 32 a * (1 - bool_byte b)) size (tiny_of_pattern x x_fits)
+  counted : (a : Float) → a ≡ float_with_sign false y → to_unsigned 32 a * (1 - bool_byte (leb (to_bits binary32 x % 2 ^ 31) 0x3100_0000)) ≡ exponent x y
+  counted a e = ap₂ (λ (a : Float) (b : Bool). to_unsigned 32 a * (1 - bool_byte b)) (e ∙ sign_off y) (tiny_of_pattern x x_fits)
 
 -- what was multiplied out, and what is narrowed
 module _
-    (s : Start) (acc : Float)
-    (found :
-    acc ≡ power (x s ⊕ Special.one) (to_unsigned 32 (of_bits binary32 (to_bits binary32 (y s) % 2 ^ 31)) * (1 - bool_byte (leb (to_bits binary32 (x s) % 2 ^ 31) 0x3100_0000)))) where
+    (s : Start) (a acc : Float) (e : a ≡ float_with_sign false (y s))
+    (found : acc ≡ power (x s ⊕ Special.one) (to_unsigned 32 a * (1 - bool_byte (leb (to_bits binary32 (x s) % 2 ^ 31) 0x3100_0000)))) where
   abbrev below : ℕ
   below = to_bits binary32 (y s) / 2 ^ 31
 
   power_is : acc ≡ power (x s ⊕ Special.one) (exponent (x s) (y s))
-  power_is = found ∙ ap (power (x s ⊕ Special.one)) (counted s)
+  power_is = found ∙ ap (power (x s ⊕ Special.one)) (counted s a e)
 
   acc_fits : T (fits binary64 acc)
   acc_fits = rw power_is (power_fits (exponent (x s) (y s)) (x s ⊕ Special.one) (add-fits binary64 (x s) Special.one))
@@ -93,13 +89,9 @@ pub float_to_bits-ny : goal.float_to_bits-ny
 unfolding of_bits
 float_to_bits-ny c = number_y c.args.x c.args.y c.requires
 
-pub float_from_bits-n : goal.float_from_bits-n
-unfolding of_bits
-float_from_bits-n c = magnitude_number binary32 c.args.y (passes _ c.well_formed.1.0.1) (number_y c.args.x c.args.y c.requires)
-
 pub float_to_int-n : goal.float_to_int-n
 unfolding of_bits
-float_to_int-n c = castable (goal.at.float_to_int-n c).Start
+float_to_int-n c = castable (goal.at.float_to_int-n c).Start _ c.abs-n.ensures.value
 
 pub float_to_float-x : goal.float_to_float-x
 unfolding of_bits
@@ -119,16 +111,16 @@ overflow_sub-below c = one_bit _ (to_bits-lt binary32 c.args.y (passes _ c.well_
 
 pub factor-requires : goal.factor-requires
 unfolding of_bits
-factor-requires c = acc_number (goal.at.factor-requires c).Start _ c.squarings-acc.ensures
+factor-requires c = acc_number (goal.at.factor-requires c).Start _ _ c.abs-n.ensures.value c.squarings-acc.ensures
 
 pub factor-requires-2 : goal.factor-requires-2
 unfolding of_bits
-factor-requires-2 c = acc_number (goal.at.factor-requires-2 c).Start _ c.squarings-acc.ensures
+factor-requires-2 c = acc_number (goal.at.factor-requires-2 c).Start _ _ c.abs-n.ensures.value c.squarings-acc.ensures
 
 pub narrow_number-requires : goal.narrow_number-requires
 unfolding of_bits
-narrow_number-requires c = narrowable (goal.at.narrow_number-requires c).Start _ c.squarings-acc.ensures _ _ c.factor.ensures c.factor-2.ensures
+narrow_number-requires c = narrowable (goal.at.narrow_number-requires c).Start _ _ c.abs-n.ensures.value c.squarings-acc.ensures _ _ c.factor.ensures c.factor-2.ensures
 
 pub returns : goal.returns
 unfolding of_bits
-returns c = c.narrow_number.ensures ∙ answer (goal.at.returns c).Start _ c.squarings-acc.ensures _ _ c.factor.ensures c.factor-2.ensures
+returns c = c.narrow_number.ensures ∙ answer (goal.at.returns c).Start _ _ c.abs-n.ensures.value c.squarings-acc.ensures _ _ c.factor.ensures c.factor-2.ensures
