@@ -1,4 +1,4 @@
--- A state that is not broken stays so: feed does not answer 5 to it, and leaves one that is not broken. Assumes nothing.
+-- A state that is not broken stays so: neither feed nor close answers 5 to it, and feed leaves one that is not broken. Assumes nothing.
 use Rattle.std.proofs.Common.{ℕ, ◌+◌, ◌≡◌, false, List, [], refl, arith}
 use Rattle.std.proofs.lemmas.Grind.{common_steps}
 use Rattle.std.specs.Prelude.{Result, Ok, Err}
@@ -11,7 +11,8 @@ use Rattle.piece.specs.Piece.{added, after}
 use Rattle.piece.proofs.Replied.{total_plus, total_counts}
 use Rattle.batch.specs.declared.Refused.{Refused}
 use Rattle.batch.specs.declared.Refused.TheVariants.{Broken}
-use Rattle.batch.specs.Feed.{verdict, state_after, fed}
+use Rattle.batch.specs.declared.NotClosed.TheVariants as NotClosed
+use Rattle.batch.specs.Feed.{verdict, state_after, fed, closed}
 use Rattle.batch.proofs.Carrying.{after_none, not_broken}
 
 -- a fresh state is one
@@ -36,3 +37,8 @@ module _ (s : State) (h : broken s ≡ false) (p : List ℕ) where
       by : (v : Result ℕ Refused) → broken (state_after v s p) ≡ false
       by (Ok n) = after_unbroken
       by (Err e) = h
+
+-- and close does not answer 5 to it
+pub close_not_five : (s : State) → broken s ≡ false → closed s ≡ Err NotClosed.BrokenState → ⊥
+unfolding closed
+close_not_five s h e = grind (arith, common_steps)

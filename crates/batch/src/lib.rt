@@ -55,7 +55,8 @@ pub fn feed(state: State, piece: &[u8], out: &mut [u8]) -> Fed
     }
 }
 
-// The work: takes the piece, unless there is a cause to refuse it.
+// The work: takes the piece, unless there is a cause to refuse it. State, piece and output are three
+// parameters, here and in `feed`, as C hands them.
 #[tactic(auto, unfolding(crate::specs::Feed::verdict, piece::specs::Piece::added, text::specs::Bytes::put))]
 fn try_take(state: State, piece: &[u8], out: &mut [u8]) -> Result<Taken, Refused>
     ensures { MatchResult result
@@ -73,6 +74,8 @@ fn try_take(state: State, piece: &[u8], out: &mut [u8]) -> Result<Taken, Refused
 }
 
 // The number of a feed's answer: 5 to 7 for a refusal, 0 for an accepted feed. Rust and C are handed it.
+// `close_number` has the same body for another error: one function of both would need a trait with the
+// equation of each.
 pub fn feed_number(verdict: Result<usize, Refused>) -> u32
     ensures { result ≡ number verdict }
 {

@@ -6,7 +6,8 @@ use crate::{Fed, State, feed};
 
 // Feeds an input from a fresh state, in pieces of at most `size` bytes (0 counts as 1), and writes the
 // answer lines one after another to the front of `out`. It ends with the first piece that is refused.
-// What was taken is as if it had been fed whole, wherever it was cut.
+// What was taken is as if it had been fed whole, wherever it was cut. The place `at` is counted, since how
+// many bytes were written is what it answers.
 pub(crate) fn feed_in_pieces(input: &[u8], size: usize, out: &mut [u8]) -> Fed
     ensures { InPieces input.now out.old result out.new }
 {

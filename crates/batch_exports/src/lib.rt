@@ -1,7 +1,8 @@
 // The reader of batch lines for Rust and C, under the C calling convention: numbers pass as
 // themselves, a slice as a pointer and a length, a lent array as a pointer to its first byte, and the
-// reader's state by value, as a C struct. Each is the function of the same name in `batch`, with its
-// answer as numbers where that is a Result. None has a `requires`.
+// reader's state by value, as a C struct. `fade_feed`, `fade_close` and `fade_write_totals` are functions
+// of `batch`, with the answer as numbers where that is a Result, and `fade_fresh` is `State::fresh`. None
+// has a `requires`.
 #![tactic(auto)]
 
 ghost use Rattle.std.specs.Prelude.{◌≡◌, ◌++◌, length};
@@ -32,7 +33,8 @@ pub extern "C" fn fade_fresh() -> State
 }
 
 // Takes a piece of input, and writes the answer lines of the lines whose line feed lies in it to the
-// front of `out`. The number is 0, or 5 to 7 where nothing was taken and nothing written.
+// front of `out`. The number is 0, or 5 to 7 where nothing was taken and nothing written. State, piece
+// and output are what C hands.
 #[unsafe(no_mangle)]
 pub extern "C" fn fade_feed(state: State, piece: &[u8], out: &mut [u8]) -> Handed
     ensures value { result ≡ handed (fed state piece.now (length out.old)) }

@@ -1,18 +1,26 @@
 -- A list of calls of feed that grows turn by turn, and the run that it comes to. Assumes nothing.
-use Rattle.std.proofs.Common.{ℕ, zero, suc, ◌≡◌, refl, sym, ap, ◌∙◌, true, List, [], ◌∷◌, ◌++◌, length, take}
+use Rattle.std.proofs.Common.{ℕ, zero, suc, ◌≡◌, refl, sym, ap, ◌∙◌, true, false, List, [], ◌∷◌, ◌++◌, length, take}
 use Rattle.std.specs.Prelude.{Option, Some, None, Result, Ok, Err}
 use Rattle.std.specs.declared.io.Error.{Error}
 use mathlib.Core.Logic.{◌⊎◌, inl, inr}
 use Rattle.state.specs.declared.State.{State}
-use Rattle.state.specs.Holding.{fresh}
+use Rattle.state.specs.Holding.{fresh, broken}
 use Rattle.batch.specs.declared.Refused.{Refused as Cause}
 use Rattle.batch.specs.declared.Refused.TheVariants.{Broken, TooManyLines, NoRoom}
 use Rattle.batch.specs.Feed.{verdict, number as number_of, fed, Did, closed, close_number}
 use Rattle.batch.specs.Series.{Call, Calls, state_of, is_accepted}
 use Rattle.batch.proofs.InPieces.{calls_more, state_more}
+use Rattle.batch.proofs.NotFive.{fed_unbroken}
 use Rattle.fade.specs.declared.End.TheVariants as End
 use Rattle.fade.specs.declared.Told.{Told}
 use Rattle.fade.specs.Run.{number, Next, AfterFeed, Answered, AfterRead, AllAccepted, AtEnd, Refused, Run}
+
+-- a turn leaves a state that is not broken
+pub turn_unbroken : (got : Result ℕ Error) (s : State) (l out : List ℕ) (next : Next) (s' : State) (out' : List ℕ) → broken s ≡ false → AfterRead got s l out next s' out' → broken s' ≡ false
+unfolding AfterRead
+turn_unbroken (Err e) s l out next s' out' h (u, n) = ap broken u.state_is ∙ h
+turn_unbroken (Ok zero) s l out next s' out' h (u, n) = ap broken u.state_is ∙ h
+turn_unbroken (Ok (suc k)) s l out next s' out' h a = ap broken a.state_is ∙ fed_unbroken s h (take (suc k) l) (length out)
 
 -- a list of accepted calls with one more
 accepted_more : (c : Call) (cs : List Call) → AllAccepted cs → is_accepted c ≡ true → AllAccepted (cs ++ c ∷ [])

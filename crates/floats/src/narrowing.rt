@@ -23,8 +23,8 @@ pub fn narrow(x: f64) -> f32
 }
 
 // The same of an x that is no NaN, with no branch: the size of x could not be foreseen. That x is no NaN
-// is asked for here and in three functions of other crates, and no type says it: it would have to be made
-// anew of the result of each operation on floats.
+// is asked for here and in two functions of `whole`, and no type says it: it would have to be made anew
+// of the result of each operation on floats.
 pub fn narrow_number(x: f64) -> f32
     requires { T (not (is_nan x)) }
     ensures { result ≡ narrowed x }

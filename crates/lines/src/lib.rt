@@ -32,12 +32,12 @@ pub enum Refusal {
     NoY,
 }
 
-impl Refusal {
-    // The number of the refusal.
-    pub fn number(self) -> u32
-        ensures { result ≡ number self }
-    {
-        self as u32
+// The number of a refusal.
+impl From<Refusal> for u32 {
+    ghost from_gives = { λ refusal n. n ≡ number refusal };
+
+    fn from(refusal: Refusal) -> u32 {
+        refusal as u32
     }
 }
 

@@ -10,9 +10,10 @@ ghost use Rattle.piece.specs.Piece.{replies, answer_lines, added, after, most_li
 use crate::Taken;
 use crate::first::{First, first_reply};
 use crate::tally::counted;
-use replies::{reply_to, write_reply};
+use replies::{AnswerLine, reply_to};
 use scan::Lines;
 use state::{Held, Reader, State, Tallies};
+use text::Text;
 
 // How far the answering has come: the place after the bytes written, the bytes after the last line
 // feed, the tallies.
@@ -38,7 +39,7 @@ pub fn take_piece(reader: Reader, piece: &[u8], out: &mut [u8]) -> Taken
             wrote: 0,
         },
         Ok(First { reply, others }) => {
-            let at = write_reply(reply, out, 0);
+            let at = AnswerLine(reply).put(out, 0);
             let done = answer_lines(others, counted(tallies, reply), out, at);
             Taken {
                 state: state_of(Held::empty().extended(done.rest), done.tallies),
@@ -60,8 +61,8 @@ fn state_of(held: Held, tallies: Tallies) -> State
     }
 }
 
-// Answers the complete lines of some bytes. It is no impl of `Text`, since it gives more than the place
-// after the bytes written.
+// Answers the complete lines of some bytes, from the place `at` on. It is no impl of `Text`, since it gives
+// more than the place after the bytes written.
 fn answer_lines<'a>(
     bytes: &'a [u8],
     mut tallies: Tallies,
@@ -79,7 +80,7 @@ fn answer_lines<'a>(
     let mut lines = Lines { rest: bytes };
     while let Some(line) = lines.next() {
         let reply = reply_to(line);
-        at = write_reply(reply, out, at);
+        at = AnswerLine(reply).put(out, at);
         tallies = counted(tallies, reply);
     }
     Progress {

@@ -14,7 +14,8 @@ pub(crate) struct First<'a> {
     pub others: &'a [u8],
 }
 
-// The first line that ends in a piece; or, where none does, what is held then.
+// The first line that ends in a piece; or, where none does, what is held then. The line that is held comes
+// from the state and the piece from the caller: a struct of both would be made for this call.
 pub(crate) fn first_reply<'a>(held: Held, piece: &'a [u8]) -> Result<First<'a>, Held>
     ensures { MatchResult result
         (λ first. FirstReply held piece.entry.now (told first.reply) first.others.now)

@@ -22,7 +22,8 @@ pub fn too_many(lines: u32, piece: &[u8]) -> bool
 
 // Whether the answer lines of a piece are longer than `room`. They are worked out only where `room` is
 // shorter than the longest answers that a line held and a piece of so many bytes and line feeds could
-// have.
+// have. What is held, the piece and the room are three parameters, here and in what is called from here:
+// a struct of them would be made for this call.
 pub fn is_short(held: Held, piece: &[u8], room: usize) -> bool
     requires { feeds piece.now ≤ most_lines }
     ensures { result ≡ ltb room (length (answer_lines (lines_from held piece.now))) }

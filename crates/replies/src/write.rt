@@ -1,6 +1,5 @@
 // Writing an answer line.
-ghost use Rattle.std.specs.Prelude.{◌≡◌, ◌+◌, ◌≤◌, length};
-ghost use Rattle.text.specs.Bytes.{put};
+ghost use Rattle.std.specs.Prelude.{◌≡◌, length};
 ghost use Rattle.replies.specs.Reply.{ending, told, written};
 
 use crate::{Answered, Reply};
@@ -35,25 +34,27 @@ pub fn reply_length(reply: Reply) -> usize
 {
     match reply {
         Ok(Answered { id, answer }) => 20 + places(id) + answer.route().word().len(),
-        Err(refusal) => 5 + places(refusal.number()),
+        Err(refusal) => 5 + places(refusal.into()),
     }
 }
 
-// Puts a reply's answer line at the place `at`, and answers the place after it. It is a function and no
-// impl of `Text`: a reply is a `Result`, and a crate writes impls of its own traits or for its own types.
-#[tactic(auto, using(crate::proofs::Patterns::answer_pattern_lem), unfolding(crate::specs::Reply::told, crate::specs::Reply::written))]
-pub fn write_reply(reply: Reply, out: &mut [u8], at: usize) -> usize
-    requires { at + length (written (told reply)) ≤ length out.old }
-    ensures value { result ≡ at + length (written (told reply)) }
-    ensures out_after { out.new ≡ put out.old at (written (told reply)) }
-{
-    match reply {
-        Ok(Answered { id, answer }) => {
-            // The pattern of a NaN is 7fc00000.
-            let pattern = f32_to_bits_with_nan(answer.value());
-            let end = Ending(answer.route());
-            (("id=", Decimal(id)), (" r=", Hex(pattern)), end).put(out, at)
+// A reply's answer line.
+#[derive(Clone, Copy)]
+pub struct AnswerLine(pub Reply);
+
+impl Text for AnswerLine {
+    ghost bytes = { λ l. written (told l.0) };
+
+    #[tactic(auto, using(crate::proofs::Patterns::answer_pattern_lem), unfolding(crate::specs::Reply::told, crate::specs::Reply::written))]
+    fn put(self, out: &mut [u8], at: usize) -> usize {
+        match self.0 {
+            Ok(Answered { id, answer }) => {
+                // The pattern of a NaN is 7fc00000.
+                let pattern = f32_to_bits_with_nan(answer.value());
+                let end = Ending(answer.route());
+                (("id=", Decimal(id)), (" r=", Hex(pattern)), end).put(out, at)
+            }
+            Err(refusal) => ("bad=", Decimal(refusal.into()), "\n").put(out, at),
         }
-        Err(refusal) => ("bad=", Decimal(refusal.number()), "\n").put(out, at),
     }
 }

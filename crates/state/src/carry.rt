@@ -5,7 +5,8 @@ ghost use Rattle.state.specs.Carry.{carry_on, carry_end};
 use crate::Held;
 use scan::line_end;
 
-// A piece, and the position up to which it has been read.
+// A piece, and the position up to which it has been read. That it is a struct of these two is a rule of
+// the project.
 #[derive(Clone, Copy)]
 pub struct Piece<'a> {
     pub bytes: &'a [u8],

@@ -31,7 +31,7 @@ impl Model for Held {
 
 impl Held {
     // The line that a tail holds.
-    pub(crate) fn of(tail: Tail) -> Held
+    pub fn of(tail: Tail) -> Held
         requires { Sound tail }
         ensures { result ≡ carried tail }
     {

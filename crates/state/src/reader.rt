@@ -1,7 +1,7 @@
 // A state that is not broken.
 ghost use Rattle.std.specs.Prelude.{◌≡◌, cond};
 ghost use Rattle.state.specs.Tally.{total};
-ghost use Rattle.state.specs.Holding.{carried, broken};
+ghost use Rattle.state.specs.Holding.{carried, broken, Sound};
 
 use crate::{Held, State, Tallies};
 use std::marker::Model;
@@ -29,6 +29,15 @@ impl Model for Reader {
 }
 
 impl Reader {
+    // The reader of a state that is known to be sound.
+    pub fn sound(state: State) -> Reader
+        requires sound { Sound state.tail }
+        requires adds_up { total state.tallies ≡ state.lines }
+        ensures { result ≡ state }
+    {
+        Reader { state }
+    }
+
     // The reader of a state, and none where it is broken.
     #[tactic(auto, using(crate::proofs::Unbroken::tail_sound, crate::proofs::Unbroken::adds_up))]
     pub fn of(state: State) -> Option<Reader>
@@ -37,7 +46,7 @@ impl Reader {
         if state.is_broken() {
             return None;
         }
-        Some(Reader { state })
+        Some(Reader::sound(state))
     }
 
     // The line that its tail holds.

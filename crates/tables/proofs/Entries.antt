@@ -5,7 +5,7 @@ use mathlib.Core.Path.{◌≡◌, refl, sym, ap, ◌∙◌, subst}
 use mathlib.Core.Logic.{inl, inr}
 use mathlib.Core.Bool.{Bool, true, false, not, ◌&&◌, beq}
 use mathlib.Core.List.{List}
-use Prim.Native.Nat.{ℕ, zero, suc, ◌*◌, ◌<◌}
+use Prim.Native.Nat.{ℕ, zero, suc, ◌-◌, ◌*◌, ◌^◌, ◌<◌}
 use native.Mathlib.Nat.{eq-or-lt_of_le, le_of_suc-le-suc, not-suc-le-zero}
 use lib.Dec.{T, eqb, eqb→eq}
 use lib.ListN.{get_or}
@@ -37,6 +37,11 @@ carried (suc n) test t i h =
     ]
 
 -- ---- LOG2P1_SCALE
+-- its patterns: the exponent's field goes down from 1052, and the digits are 0
+pub scale_pattern : (i : ℕ) → i < 158 → get_or log2p1_scale i 0 ≡ (1052 - i) * 2 ^ 52
+unfolding log2p1_scale
+scale_pattern i h = eqb→eq (get_or log2p1_scale i 0) ((1052 - i) * 2 ^ 52) (carried 158 (λ (k : ℕ). eqb (get_or log2p1_scale k 0) ((1052 - k) * 2 ^ 52)) tt i h)
+
 -- its values: 2^(29 - i)
 pub scale_rule : (i : ℕ) → i < 158 → entry log2p1_scale i ≡ scale_value i
 unfolding entry log2p1_scale fits to_bits

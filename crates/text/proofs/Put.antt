@@ -1,4 +1,4 @@
--- Laws of `put`, text put at a place of a list: the length stays, text after text is one text, and a stored byte is text of one byte. Assumes nothing.
+-- Laws of `put`, text put at a place of a list: the length stays, and text after text is one text. Assumes nothing.
 use mathlib.Core.Path.{◌≡◌, refl, sym, ap, ◌∙◌}
 use Prim.Native.Nat.{ℕ, zero, suc, ◌+◌, ◌-◌, ◌/◌, ◌%◌, ◌≤◌, ◌<◌}
 use native.Mathlib.Omega.{arith}

@@ -5,7 +5,7 @@ ghost use Rattle.text.specs.Bytes.{all};
 ghost use Rattle.text.specs.Digits.{is_hex, value};
 
 // Whether a byte is a hexadecimal digit. The tests are joined without a branch, so that eight bytes
-// can be tested at once.
+// can be tested at once. The library's `is_ascii_hexdigit` takes capital letters too.
 #[tactic(auto, unfolding(crate::specs::Digits::is_hex, crate::specs::Digits::is_decimal))]
 fn is_hex(b: u8) -> bool
     ensures { result ≡ is_hex b }
@@ -34,7 +34,8 @@ fn number(digits: &[u8; 8]) -> u32
     (fours % 0x1_0000_0000 * 0x1_0000 + fours / 0x1_0000_0000) as u32
 }
 
-// The number that eight hexadecimal digits say, and None where one of the eight is no digit.
+// The number that eight hexadecimal digits say, and None where one of the eight is no digit. The
+// library's `from_str_radix` takes capital letters and a sign too.
 pub fn from_hex(digits: &[u8; 8]) -> Option<u32>
     ensures { result ≡ cond (all is_hex digits.now) (Some (value 16 digits.now)) None }
 {

@@ -72,8 +72,8 @@ nothing_done p t₀ out₀ at = record { all_lines = refl; same_rest = refl; out
 pub loop-line-init : goal.loop-line-init
 loop-line-init c = nothing_done _ _ _ _
 
-pub write_reply-at-requires : goal.write_reply-at-requires
-write_reply-at-requires c = line_room _ _ _ _ _ _ _ _ _ c.loop-line.invariant _ _ _ c.in-Some.ensures.steps.0 c.reply_to-reply.ensures c.loop-line.auto.out c.requires.room
+pub put-at-requires : goal.put-at-requires
+put-at-requires c = line_room _ _ _ _ _ _ _ _ _ c.loop-line.invariant _ _ _ c.in-Some.ensures.steps.0 c.reply_to-reply.ensures c.loop-line.auto.out c.requires.room
 
 pub counted-tallies-requires : goal.counted-tallies-requires
 counted-tallies-requires c = line_counts _ _ _ _ _ _ _ _ _ c.loop-line.invariant _ _ _ c.in-Some.ensures.steps.0 c.reply_to-reply.ensures c.loop-line.auto.out c.requires.countable
@@ -82,7 +82,7 @@ pub loop-line-preserved : goal.loop-line-preserved
 loop-line-preserved c =
     let s = c.in-Some.ensures.steps in
     rw map-append
-    (next _ _ _ _ _ _ _ _ _ c.loop-line.invariant _ _ _ s.0 c.reply_to-reply.ensures c.loop-line.auto.out c.requires.room s.1 _ _ _ c.write_reply-at.ensures.value c.write_reply-at.ensures.out_after c.counted-tallies.ensures)
+    (next _ _ _ _ _ _ _ _ _ c.loop-line.invariant _ _ _ s.0 c.reply_to-reply.ensures c.loop-line.auto.out c.requires.room s.1 _ _ _ c.put-at.ensures.value c.put-at.ensures.out_after c.counted-tallies.ensures)
 
 pub returns : goal.returns
 returns c =

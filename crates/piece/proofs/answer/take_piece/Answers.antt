@@ -90,8 +90,8 @@ module _ (s : State) (p : List ℕ) where
             all_total all_counts
             (omega (arith, ap length answers, length-append (written r) (answer_lines (lines others))))
 
-pub write_reply-at-requires : goal.write_reply-at-requires
-write_reply-at-requires c =
+pub put-at-requires : goal.put-at-requires
+put-at-requires c =
     let f = rw c.held.ensures at c.in-Ok.ensures in
     omega (arith, both_room c.args.reader c.args.piece.now _ _ f c.args.out.now c.requires.room)
 
@@ -105,7 +105,7 @@ answer_lines-done-requires-clause-countable c =
 pub answer_lines-done-requires-clause-room : goal.answer_lines-done-requires-clause-room
 answer_lines-done-requires-clause-room c =
     let f = rw c.held.ensures at c.in-Ok.ensures in
-    others_room c.args.reader c.args.piece.now _ _ f c.args.out.now c.requires.room _ _ c.write_reply-at.ensures.out_after c.write_reply-at.ensures.value
+    others_room c.args.reader c.args.piece.now _ _ f c.args.out.now c.requires.room _ _ c.put-at.ensures.out_after c.put-at.ensures.value
 
 pub state_of-requires-in-Ok : goal.state_of-requires-in-Ok
 state_of-requires-in-Ok c =
@@ -128,6 +128,6 @@ returns-in-Ok c =
     let v = c.tallies-tallies.ensures.value in
     record {
       value = ap (λ k. record { state = k; wrote = c.answer_lines-done.result.at }) c.state_of-in-Ok.ensures
-          ∙ all_taken c.args.reader c.args.piece.now _ _ f (rw v at c.tallies-tallies.ensures.adds_up) _ (rw v at c.counted.ensures) _ c.answer_lines-done.ensures.tallies_counted _ _ _ (c.extended.ensures ∙ ap (λ k. kept (k ++ c.answer_lines-done.result.rest.now)) c.empty.ensures ∙ ap kept c.answer_lines-done.ensures.rest_follows) c.write_reply-at.ensures.value c.answer_lines-done.ensures.at_value;
-      out_after = all_put c.args.reader c.args.piece.now _ _ f c.args.out.now c.requires.room _ _ c.write_reply-at.ensures.out_after c.write_reply-at.ensures.value _ c.answer_lines-done.ensures.out_after;
+          ∙ all_taken c.args.reader c.args.piece.now _ _ f (rw v at c.tallies-tallies.ensures.adds_up) _ (rw v at c.counted.ensures) _ c.answer_lines-done.ensures.tallies_counted _ _ _ (c.extended.ensures ∙ ap (λ k. kept (k ++ c.answer_lines-done.result.rest.now)) c.empty.ensures ∙ ap kept c.answer_lines-done.ensures.rest_follows) c.put-at.ensures.value c.answer_lines-done.ensures.at_value;
+      out_after = all_put c.args.reader c.args.piece.now _ _ f c.args.out.now c.requires.room _ _ c.put-at.ensures.out_after c.put-at.ensures.value _ c.answer_lines-done.ensures.out_after;
     }

@@ -1,4 +1,4 @@
--- `number` meets its contract, refusal by refusal. Assumes nothing.
+-- `from` meets its contract, refusal by refusal. Assumes nothing.
 use denote.Enum.Declared.{tag_of}
 use mathlib.Core.Path.{◌≡◌, refl}
 use Prim.Native.Nat.{◌+◌}
@@ -6,7 +6,7 @@ use Rattle.lines.specs.Format.{number}
 use Rattle.lines.specs.contracts.Refusal.{the_type}
 use Rattle.lines.specs.declared.Refusal.{Refusal}
 use Rattle.lines.specs.declared.Refusal.TheVariants.{TooLong, NoId, NoX, NoY}
-use Rattle.lines.proofs.Refusal.number.Goals as goal
+use Rattle.lines.proofs.U32FromRefusal.from.Goals as goal
 
 numbered : (r : Refusal) → tag_of the_type r + 1 ≡ number r
 unfolding number
@@ -16,4 +16,4 @@ numbered NoX = refl
 numbered NoY = refl
 
 pub returns : goal.returns
-returns c = numbered c.args.self
+returns c = numbered c.args.refusal
