@@ -23,13 +23,14 @@ impl fmt::Display for Differs {
     }
 }
 
-// What a feed must come to: its number, the state after it, and the text that it writes. A number and no
-// case of the reader's own enum, so that the numbers are checked too.
+// What a feed must come to: its number, the state after it, and the text that it writes. A number
+// and no case of the reader's own enum: the numbers themselves are held to the paper, and an enum
+// would leave them unchecked.
 #[derive(Clone, Copy)]
 pub(crate) struct Wanted<'a> {
     number: u32,
     state: State,
-    text: &'a [u8],
+    pub text: &'a [u8],
 }
 
 // Whether an output has a text at its front, and its other bytes are as they were before the feed.
@@ -75,7 +76,7 @@ impl<'a> Wanted<'a> {
     }
 }
 
-// What a close's answer differs in from a number.
+// What a close's answer differs in from the number expected: a number, as in `Wanted`.
 pub(crate) fn close_differs(state: State, number: u32) -> Result<(), Differs> {
     if batch::close_number(batch::close(state)) == number {
         Ok(())

@@ -4,6 +4,7 @@ ghost use Rattle.std.specs.Prelude.{◌≤◌, length};
 
 use batch::{OVER_LONG, State, Tail, Tallies};
 use lines::LONGEST;
+use std::iter::once;
 
 // The batch: its bytes, and the answers that feeding it whole wrote.
 #[derive(Clone, Copy)]
@@ -24,16 +25,13 @@ pub(crate) fn feeds(s: &[u8]) -> u32 {
 
 // The first n lines, and what follows them. Where there are fewer, nothing follows.
 pub(crate) fn split_lines(s: &[u8], n: u32) -> (&[u8], &[u8]) {
-    let mut left = n;
-    for (i, b) in s.iter().enumerate() {
-        if left == 0 {
-            return s.split_at(i);
-        }
-        if *b == b'\n' {
-            left -= 1;
-        }
-    }
-    (s, b"")
+    let ends = s
+        .iter()
+        .enumerate()
+        .filter(|(_, b)| **b == b'\n')
+        .map(|(i, _)| i + 1);
+    let place = once(0).chain(ends).nth(n as usize);
+    s.split_at(place.unwrap_or(s.len()))
 }
 
 // The tail that holds an unfinished line.

@@ -1,7 +1,8 @@
-// States made by hand.
+// States made by hand. A close and a refusal stand by their numbers, as in `Wanted`.
 ghost use Rattle.std.specs.Prelude.{◌<◌};
 
 use crate::ROOM;
+use crate::compare::Wanted;
 use crate::report::Seen;
 use crate::single::Given;
 use batch::{MOST_LINES, OVER_LONG, State, Tail, Tallies};
@@ -54,66 +55,112 @@ fn all_bad(tail: Tail, lines: u32) -> State {
     }
 }
 
-// Feeds and closes a broken state: 5 comes before all else.
-fn check_state(seen: &mut Seen, state: State) {
-    let feeds: [(&[u8], usize); 5] = [
-        (b"id=7 x=3f000000 y=40000000\n", ROOM),
-        (b"\n", ROOM),
-        (b"\n", 5),
-        (b"\n", 0),
-        (b"", ROOM),
-    ];
-    for (piece, space) in feeds {
-        seen.refused(Given::new(state, piece, space), 5);
+impl Seen {
+    // Feeds and closes a broken state: 5 comes before all else.
+    fn check_state(&mut self, state: State) {
+        let feeds: [(&[u8], usize); 5] = [
+            (b"id=7 x=3f000000 y=40000000\n", ROOM),
+            (b"\n", ROOM),
+            (b"\n", 5),
+            (b"\n", 0),
+            (b"", ROOM),
+        ];
+        for (piece, space) in feeds {
+            self.refused(Given::new(state, piece, space), 5);
+        }
+        self.closed(state, 5);
     }
-    seen.closed(state, 5);
-}
 
-// Tails that no feed leaves, without lines and with as many as there can be: a count past the over-long
-// mark, a line feed, a byte past the count, a byte at the mark.
-fn check_tails(seen: &mut Seen) {
-    let tails = [
-        zeros(OVER_LONG + 1),
-        zeros(u32::MAX),
-        tail_with(5, 2, b'\n'),
-        tail_with(FULL, LAST, b'\n'),
-        tail_with(0, LAST, b'\n'),
-        tail_with(3, 3, 1),
-        tail_with(0, 0, b'i'),
-        tail_with(FULL - 1, LAST, 255),
-        tail_with(OVER_LONG, 0, b'i'),
-        tail_with(OVER_LONG, LAST, 1),
-    ];
-    for tail in tails {
-        check_state(seen, all_bad(tail, 0));
-        check_state(seen, all_bad(tail, MOST_LINES));
+    // Tails that no feed leaves, without lines and with as many as there can be: a count past the
+    // over-long mark, a line feed, a byte past the count, a byte at the mark.
+    fn check_tails(&mut self) {
+        let tails = [
+            zeros(OVER_LONG + 1),
+            zeros(u32::MAX),
+            tail_with(5, 2, b'\n'),
+            tail_with(FULL, LAST, b'\n'),
+            tail_with(0, LAST, b'\n'),
+            tail_with(3, 3, 1),
+            tail_with(0, 0, b'i'),
+            tail_with(FULL - 1, LAST, 255),
+            tail_with(OVER_LONG, 0, b'i'),
+            tail_with(OVER_LONG, LAST, 1),
+        ];
+        for tail in tails {
+            self.check_state(all_bad(tail, 0));
+            self.check_state(all_bad(tail, MOST_LINES));
+        }
     }
-}
 
-// Tallies that do not add up to the lines, with an empty tail and with an over-long line: one too many
-// in each place, one too few, none; and twice tallies that come to the lines where 32 bits hold the sum.
-fn check_sums(seen: &mut Seen) {
-    let most = MOST_LINES;
-    let sums = [
-        (0, [1, 0, 0, 0, 0, 0]),
-        (0, [0, 1, 0, 0, 0, 0]),
-        (0, [0, 0, 1, 0, 0, 0]),
-        (0, [0, 0, 0, 1, 0, 0]),
-        (0, [0, 0, 0, 0, 1, 0]),
-        (0, [0, 0, 0, 0, 0, 1]),
-        (7, [1, 1, 1, 1, 1, 1]),
-        (most, [0, 0, 0, 0, 0, 0]),
-        (0, [most, 1, 0, 0, 0, 0]),
-        (most, [most, most, 1, 0, 0, 0]),
-    ];
-    for (lines, counts) in sums {
-        for count in [0, OVER_LONG] {
-            let state = State {
-                tail: zeros(count),
-                lines,
-                tallies: tallies(counts),
-            };
-            check_state(seen, state);
+    // Tallies that do not add up to the lines, with an empty tail and with an over-long line: one
+    // too many in each place, one too few, none; and twice tallies that come to the lines where 32
+    // bits hold the sum.
+    fn check_sums(&mut self) {
+        let most = MOST_LINES;
+        let sums = [
+            (0, [1, 0, 0, 0, 0, 0]),
+            (0, [0, 1, 0, 0, 0, 0]),
+            (0, [0, 0, 1, 0, 0, 0]),
+            (0, [0, 0, 0, 1, 0, 0]),
+            (0, [0, 0, 0, 0, 1, 0]),
+            (0, [0, 0, 0, 0, 0, 1]),
+            (7, [1, 1, 1, 1, 1, 1]),
+            (most, [0, 0, 0, 0, 0, 0]),
+            (0, [most, 1, 0, 0, 0, 0]),
+            (most, [most, most, 1, 0, 0, 0]),
+        ];
+        for (lines, counts) in sums {
+            for count in [0, OVER_LONG] {
+                let state = State {
+                    tail: zeros(count),
+                    lines,
+                    tallies: tallies(counts),
+                };
+                self.check_state(state);
+            }
+        }
+    }
+
+    // A state with as many lines as there can be: no line feed is taken, and bytes of a line are
+    // held.
+    fn check_full(&mut self) {
+        let state = State {
+            tail: zeros(0),
+            lines: MOST_LINES,
+            tallies: tallies([1, 2, 3, 4, 5, MOST_LINES - 15]),
+        };
+        let refused: [(&[u8], usize); 3] = [(b"\n", ROOM), (b"\n", 0), (b"i\n\n", ROOM)];
+        for (piece, space) in refused {
+            self.refused(Given::new(state, piece, space), 6);
+        }
+        let held: [(&[u8], usize, Tail); 3] = [
+            (b"", 0, zeros(0)),
+            (b"0", 0, tail_with(1, 0, b'0')),
+            (&[b'0'; LONG], ROOM, zeros(OVER_LONG)),
+        ];
+        for (piece, space, tail) in held {
+            let after = State { tail, ..state };
+            self.feed(Given::new(state, piece, space), Wanted::taken(after, b""));
+        }
+    }
+
+    // A state with room for one line more: an empty line is taken where the output has room, and
+    // two are not.
+    fn check_last(&mut self) {
+        let state = all_bad(zeros(0), MOST_LINES - 1);
+        let full = all_bad(zeros(0), MOST_LINES);
+        for space in [ROOM, 6] {
+            let given = Given::new(state, b"\n", space);
+            self.feed(given, Wanted::taken(full, b"bad=2\n"));
+        }
+        let refused: [(&[u8], usize, u32); 4] = [
+            (b"\n", 5, 7),
+            (b"\n", 0, 7),
+            (b"\n\n", ROOM, 6),
+            (b"\n\n", 0, 6),
+        ];
+        for (piece, space, number) in refused {
+            self.refused(Given::new(state, piece, space), number);
         }
     }
 }
@@ -122,60 +169,16 @@ fn check_sums(seen: &mut Seen) {
 // parameter they are no shorter.
 pub(crate) fn check_broken() -> Seen {
     let mut seen = Seen::default();
-    check_tails(&mut seen);
-    check_sums(&mut seen);
+    seen.check_tails();
+    seen.check_sums();
     seen
-}
-
-// A state with as many lines as there can be: no line feed is taken, and bytes of a line are held.
-fn check_full(seen: &mut Seen) {
-    let state = State {
-        tail: zeros(0),
-        lines: MOST_LINES,
-        tallies: tallies([1, 2, 3, 4, 5, MOST_LINES - 15]),
-    };
-    let refused: [(&[u8], usize); 3] = [(b"\n", ROOM), (b"\n", 0), (b"i\n\n", ROOM)];
-    for (piece, space) in refused {
-        seen.refused(Given::new(state, piece, space), 6);
-    }
-    let held: [(&[u8], usize, Tail); 3] = [
-        (b"", 0, zeros(0)),
-        (b"0", 0, tail_with(1, 0, b'0')),
-        (&[b'0'; LONG], ROOM, zeros(OVER_LONG)),
-    ];
-    for (piece, space, tail) in held {
-        seen.taken(
-            Given::new(state, piece, space),
-            State { tail, ..state },
-            b"",
-        );
-    }
-}
-
-// A state with room for one line more: an empty line is taken where the output has room, and two are
-// not.
-fn check_last(seen: &mut Seen) {
-    let state = all_bad(zeros(0), MOST_LINES - 1);
-    let full = all_bad(zeros(0), MOST_LINES);
-    for space in [ROOM, 6] {
-        seen.taken(Given::new(state, b"\n", space), full, b"bad=2\n");
-    }
-    let refused: [(&[u8], usize, u32); 4] = [
-        (b"\n", 5, 7),
-        (b"\n", 0, 7),
-        (b"\n\n", ROOM, 6),
-        (b"\n\n", 0, 6),
-    ];
-    for (piece, space, number) in refused {
-        seen.refused(Given::new(state, piece, space), number);
-    }
 }
 
 // States at the most lines. See `check_broken` for why these are two.
 pub(crate) fn check_most() -> Seen {
     let mut seen = Seen::default();
-    check_full(&mut seen);
-    check_last(&mut seen);
+    seen.check_full();
+    seen.check_last();
     seen
 }
 

@@ -23,7 +23,7 @@ impl<'a> Given<'a> {
 
     // Feeds the piece to the first `space` bytes of an output, or to all of it where it has fewer: so
     // no check has to prove that its space is at most ROOM.
-    pub(crate) fn differs(&self, out: &mut [u8], wanted: &Wanted) -> Result<(), Differs> {
+    pub(crate) fn differs(&self, out: &mut [u8], wanted: Wanted) -> Result<(), Differs> {
         let space = self.space.min(out.len());
         let fed = batch::feed(self.state, self.piece, &mut out[..space]);
         wanted.differs(&fed, out)
@@ -32,22 +32,17 @@ impl<'a> Given<'a> {
 
 impl Seen {
     // Feeds a piece to a fresh output.
-    fn feed(&mut self, given: Given, wanted: &Wanted) {
+    pub(crate) fn feed(&mut self, given: Given, wanted: Wanted) {
         let mut out = [MARK; ROOM];
         self.note_feed(given.differs(&mut out, wanted));
     }
 
-    // Feeds a piece that must be taken.
-    pub(crate) fn taken(&mut self, given: Given, after: State, text: &[u8]) {
-        self.feed(given, &Wanted::taken(after, text));
-    }
-
-    // Feeds a piece that must be refused, with the number of the refusal.
+    // Feeds a piece that must be refused, with this number: a number, as in `Wanted`.
     pub(crate) fn refused(&mut self, given: Given, number: u32) {
-        self.feed(given, &Wanted::refused(given.state, number));
+        self.feed(given, Wanted::refused(given.state, number));
     }
 
-    // Closes a state, which must have this number: the numbers themselves are checked.
+    // Closes a state, which must have this number: a number, as in `Wanted`.
     pub(crate) fn closed(&mut self, state: State, number: u32) {
         self.note_close(close_differs(state, number));
     }

@@ -39,6 +39,8 @@ enum End {
 struct Told;
 
 // What is kept from one read to the next: the state, the piece that was read and the answers to it.
+// It is data alone. `rt` is lent by `main` and passed to the methods: as a field it would give the
+// struct a type parameter and a lifetime, which would stand in each clause.
 #[derive(Drop)]
 struct Workspace {
     state: State,

@@ -12,8 +12,9 @@ use std::num::f32_to_bits_with_nan;
 // How many lines are read at most. A loop has to end, so they are counted.
 const LINES: u32 = 100_000;
 
-// The value of a hexadecimal digit; another byte counts as 0. By hand, since the library's `to_digit`
-// takes capital letters too, and `from_hex` of `text` refuses all eight for one that is no digit.
+// The value of a hexadecimal digit; another byte counts as 0. By hand, since the library's
+// `to_digit` takes capital letters too, and `from_hex` of `text` refuses all eight for one that is
+// no digit: with either, this program would print another line for such a byte than it does.
 fn digit(b: u8) -> u32
     ensures { result < 16 }
 {
