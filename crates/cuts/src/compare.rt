@@ -76,7 +76,8 @@ impl<'a> Wanted<'a> {
     }
 }
 
-// What a close's answer differs in from the number expected: a number, as in `Wanted`.
+// What a close's answer differs in from the number expected: a number, as in `Wanted`. A struct of it and
+// the state would be made for this call.
 pub(crate) fn close_differs(state: State, number: u32) -> Result<(), Differs> {
     if batch::close_number(batch::close(state)) == number {
         Ok(())
