@@ -66,8 +66,8 @@ fn is_absorbed(nx: u32) -> bool
 
 // What `as_written` answers for the f32s of the patterns nx and ny: by the filter where it settles the
 // answer. An x that is absorbed is told first, since the processor then need not wait for a logarithm to
-// know the way. nx and ny are those of `f_compoundf`. Each case of `Found` has an arm, since each makes another answer of it: a closure or a
-// table would say the cases once more.
+// know the way. nx and ny are those of `f_compoundf`. Each case of `Found` has an arm, since each makes
+// another answer of it: a closure or a table would say the cases once more.
 pub(crate) fn table_path(nx: u32, ny: u32) -> Answer
     requires { Tabled (of_bits binary32 nx) (of_bits binary32 ny) }
     ensures { outcome result ≡ spec.table_path (of_bits binary32 nx) (of_bits binary32 ny) }

@@ -4,7 +4,7 @@ use crate::report::Seen;
 use crate::{MARK, ROOM};
 use batch::State;
 
-// What a feed is given: a state, a piece, and how many bytes its output has, ROOM at most.
+// What a feed is given, as C hands it too: a state, a piece, and how many bytes its output has, ROOM at most.
 #[derive(Clone, Copy)]
 pub(crate) struct Given<'a> {
     pub state: State,

@@ -12,7 +12,7 @@ use crate::scaling::{exponent, reduced};
 use std::num::f64_to_bits_with_nan;
 use tables::{CompoundfExp2U, Log2p1CompoundfLog2Inv, PairTable, PolyP, PolyQ, Table};
 
-// A way to work out a * b + c.
+// A way to work out a * b + c. The three are parameters, as in the source.
 pub trait MulAdd {
     ghost mul_add: { Float → Float → Float → Float };
 

@@ -10,7 +10,8 @@ use crate::{LARGEST_ID, LONGEST, Pair, Refusal};
 use text::from_hex;
 
 // The D at the front, and what follows it. The digits are added up as they are found: where they are
-// split off first, a line takes 4 ns more, of some 91. A u64 holds any u32 and a digit more.
+// split off first, a line takes 4 ns more, of some 91. A u64 holds any u32 and a digit more. The library's
+// `parse` takes zeros in front and a sign, and no bytes but a `str`.
 #[tactic(auto, using(crate::proofs::Ids::d_steps))]
 fn read_d(line: &[u8]) -> Option<(u32, &[u8])>
     ensures { let ds = take_while is_decimal line.now in Reads (is_d ds) (value 10 ds) (drop (length ds) line.now) result }

@@ -1,7 +1,8 @@
 // The functions on numbers that Rust and C can call, under the C calling convention: numbers pass as
 // themselves, and a double-double as a C struct of two doubles, lo and hi. Each is one call of a
 // function of this repository or of the library, and its result is fixed by its value. There are two
-// where there is one for f32 and one for f64, since C has no generics. None has a `requires`.
+// where there is one for f32 and one for f64, since C has no generics, and operands are parameters, as C
+// hands them. None has a `requires`.
 // `fade_compoundf` is exported by `exports`.
 #![tactic(auto)]
 

@@ -24,7 +24,7 @@ struct Progress<'a> {
     tallies: Tallies,
 }
 
-// Takes a piece whose answer lines have room.
+// Takes a piece whose answer lines have room. Piece and output are those of `feed`, as C hands them.
 pub fn take_piece(reader: Reader, piece: &[u8], out: &mut [u8]) -> Taken
     requires countable { reader.lines + feeds piece.now ≤ most_lines }
     requires room { length (answer_lines (added reader piece.now)) ≤ length out.old }

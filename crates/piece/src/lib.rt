@@ -11,13 +11,15 @@ pub use answer::take_piece;
 pub use measure::{is_short, too_many};
 use state::State;
 
-// The most lines that are counted.
+// The most lines that are counted. Several functions ask that these are not passed, each of what it
+// still has to count: a type for each would be made for one call.
 pub const MOST_LINES: u32 = 0xffff_ffff;
 
 // An answer line is at most so many bytes longer than its line, each with its line feed.
 pub const MORE: usize = 5;
 
-// What taking a piece gives: the state after it, and how many bytes were written.
+// What taking a piece gives: the state after it, and how many bytes were written. `Fed` of `batch` has the
+// answer of a feed in the place of that number, which may be a refusal.
 #[derive(Clone, Copy)]
 pub struct Taken {
     pub state: State,

@@ -32,7 +32,7 @@ fn pattern(digits: &[u8]) -> u32 {
         .fold(0, |n, b| n % 0x1000_0000 * 16 + digit(*b))
 }
 
-// Writes the line again, with its answer.
+// Writes the line again, with its answer. The two patterns are those of `f_compoundf`.
 fn replay(rt: &impl Print, nx: u32, ny: u32) -> io::Result<()> {
     let answer = compound::f_compoundf(nx, ny);
     let bits = f32_to_bits_with_nan(answer.value());

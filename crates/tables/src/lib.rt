@@ -1,5 +1,6 @@
 // The tables of the compound function, as patterns of f64: `compoundf.rs` of pxfm 0.1.30 (NOTICE).
-// Each is a type, and `PolyP::at(6)` is entry 6 of P. Its patterns are a `static`, since an indexed
+// Each is a type, and `PolyP::at(6)` is entry 6 of P; two pairs of them are read at one index each, and
+// stand apart as in the source and in document 01. Its patterns are a `static`, since an indexed
 // `const` array would be built anew on the stack at every call.
 #![tactic(auto)]
 

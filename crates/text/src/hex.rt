@@ -22,7 +22,8 @@ fn are_hex(digits: &[u8; 8]) -> bool
 }
 
 // The number that eight hexadecimal digits say. All are turned to their values at once, the low half of
-// the code and 9 more for a letter; then two and two, four and four are joined.
+// the code and 9 more for a letter; then two and two, four and four are joined. The library reads a
+// `str`, which the bytes would have to be made first, and one digit after another.
 fn number(digits: &[u8; 8]) -> u32
     requires { all is_hex digits.now ≡ true }
     ensures { result ≡ value 16 digits.now }

@@ -7,8 +7,8 @@ ghost use Rattle.text.specs.Digits.{decimal, hex};
 use crate::digits::{fill_digits, places};
 
 // A text that can be put at a place of a list of bytes. A tuple is its parts, one after another. It is not
-// `Display` and `write!`: by these an answer line alone takes 92 ns, more than a line of a batch takes now
-// with all that it needs, and the bar of half the Rust's time would be missed.
+// `Display` and `write!`: by these an answer line alone takes 92 ns, as long as a line of a batch takes
+// now with all that it needs, and the bar, half of the Rust's time or 105 ns, would be missed.
 pub trait Text {
     // Its bytes.
     ghost bytes: { Self → List ℕ };

@@ -16,7 +16,7 @@ pub const TOTALS: usize = 48 + 8 * 10;
 // Writes the totals, and the line of the end's number if there is one, to the front of `out`, and
 // answers how many bytes these are. A number of 0 says that there is none: C, which hands a number, has
 // no Option, and `End` of `fade` has the number 0 for it too, so that an Option would be made of a 0
-// here and taken apart again.
+// here and taken apart again. State, number and output are three parameters, as C hands them.
 #[tactic(auto, using(text::proofs::Put::by_test, crate::proofs::Room::totals_most), unfolding(crate::specs::Totals::totals, crate::specs::Totals::end_line))]
 pub fn write_totals(state: State, end: u32, out: &mut [u8; TOTALS]) -> usize
     ensures value { result ≡ length (totals state ++ end_line end) }
