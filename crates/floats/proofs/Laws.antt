@@ -14,7 +14,6 @@ pub mod Sums  -- the order of sums, and the distance to the nearest whole value
 pub mod Powers  -- a normal value times a power of two
 pub mod Nearby  -- a normal value plus one that is small beside it
 pub mod Cast  -- where the cast of a value to an integer is defined
-pub mod Widen  -- widening by the pattern
 pub mod Narrow  -- narrowing by the pattern
 pub mod Whole  -- the nearest whole value by an addition
 pub mod SmallWhole  -- the same for a value of either sign
