@@ -1,4 +1,4 @@
-// A number from 1/sqrt(2) to sqrt(2), and its inverse in the table.
+// A number that has an inverse in the table, with that inverse.
 ghost use Rattle.std.specs.Prelude.{◌≡◌};
 ghost use Rattle.tables.specs.Tables.{entry, log2p1_compoundf_inv};
 ghost use Rattle.fast_path.specs.Fast.{HasInverse, inverse_index};
