@@ -1,4 +1,5 @@
--- The mission, demands 2 and 3: what is claimed of the answer for every pair of patterns. When it is a NaN, its sign, and for whole exponents the bound.
+-- The mission, demands 2 and 3: what is claimed of the answer for every pair of patterns. When it is a NaN, its sign,
+-- and for whole exponents the bound.
 use Rattle.std.specs.Prelude.{ℕ, ◌+◌, ◌-◌, ◌*◌, ◌^◌, ◌<◌, ◌≡◌, Bool, false, not, ◌&&◌, ◌||◌, T, pos, Float}
 use Rattle.std.specs.Float.{fin, binary32}
 use Rattle.std.specs.Float.Ieee.{of_bits, to_bits, is_nan, lt, le}
@@ -32,8 +33,9 @@ x_in_range x = not (is_zero x) && lt minus_one x && lt x (fin false 1 (pos 64))
 unfoldable pub Near : ℕ → Fraction → Float → Type 0
 Near k E r = T (le (nearest_f32 (E.top * (2 ^ k - 1)) (E.bottom * 2 ^ k)) r) × T (le r (nearest_f32 (E.top * (2 ^ k + 1)) (E.bottom * 2 ^ k)))
 
--- "Where in such a line y is whole, 1 <= |y| <= 16, x nonzero and -1 < x < 2^64, the answer is at least the nearest f32 to E × (1 - 2^-47) and at most the
--- nearest f32 to E × (1 + 2^-47), E being the exact (1+x)^y." Here it is said of every such pair.
+-- "Where in such a line y is whole, 1 <= |y| <= 16, x nonzero and -1 < x < 2^64, the answer is at least the nearest
+-- f32 to E × (1 - 2^-47) and at most the nearest f32 to E × (1 + 2^-47), E being the exact (1+x)^y." Here it is said
+-- of every such pair.
 unfoldable pub WholeBound : Float → Float → Type 0
 WholeBound x y = T (whole_to16 y) → T (x_in_range x) → Near 47 (exact x y) (answer x y)
 

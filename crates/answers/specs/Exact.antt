@@ -1,4 +1,5 @@
--- The mission, demand 3: "E being the exact (1+x)^y", a fraction of whole numbers, for a finite x above -1 and a whole y.
+-- The mission, demand 3: "E being the exact (1+x)^y", a fraction of whole numbers, for a finite x above -1 and a
+-- whole y.
 use Rattle.std.specs.Prelude.{ℕ, ◌+◌, ◌-◌, ◌*◌, ◌/◌, ◌^◌, true, false, Float}
 use Rattle.std.specs.Float.{nan, inf, fin}
 use Rattle.std.specs.Float.Ieee.{up, down}
@@ -8,7 +9,8 @@ pub record Fraction : Type 0 where
   pub top : ℕ
   pub bottom : ℕ
 
--- 1 + x. An infinity and a NaN have none; the 0 that stands here for it is without effect. So is the top that is cut to 0 for an x below -1.
+-- 1 + x. An infinity and a NaN have none; the 0 that stands here for it is without effect. So is the top that is cut
+-- to 0 for an x below -1.
 unfoldable pub one_plus : Float → Fraction
 one_plus nan = record { top = 0; bottom = 1 }
 one_plus (inf s) = record { top = 0; bottom = 1 }
@@ -22,8 +24,8 @@ power a n = record { top = a.top ^ n; bottom = a.bottom ^ n }
 unfoldable pub inverse : Fraction → ℕ → Fraction
 inverse a n = record { top = a.bottom ^ n; bottom = a.top ^ n }
 
--- E = (1+x)^y: with y = ±n it is (1+x)^n or 1 / (1+x)^n. An infinity and a NaN are no exponents here, and the 0 is without effect. Where the bound is claimed the
--- bottom is above 0 (`base` in proofs/Whole/OnePlus.antt).
+-- E = (1+x)^y: with y = ±n it is (1+x)^n or 1 / (1+x)^n. An infinity and a NaN are no exponents here, and the 0 is
+-- without effect. Where the bound is claimed the bottom is above 0 (`base` in proofs/Whole/OnePlus.antt).
 unfoldable pub exact : Float → Float → Fraction
 exact x nan = record { top = 0; bottom = 1 }
 exact x (inf s) = record { top = 0; bottom = 1 }

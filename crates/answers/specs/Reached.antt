@@ -1,5 +1,6 @@
--- Document 01, "Traps for the translator": "an index below 0 reads entry 0 and one above 32 reads entry 32, and in the scaling a k past 1000 or -1000 counts as that end and a
--- NaN k as 0; no pair is known to get there." Here it is said that none does, and that no t is a NaN.
+-- Document 01, "Traps for the translator": "an index below 0 reads entry 0 and one above 32 reads entry 32, and in
+-- the scaling a k past 1000 or -1000 counts as that end and a NaN k as 0; no pair is known to get there." Here it is
+-- said that none does, and that no t is a NaN.
 use Rattle.std.specs.Prelude.{ℕ, ◌≤◌, ◌≡◌, false, not, T, pos, Float}
 use Rattle.std.specs.Float.{fin, binary32}
 use Rattle.std.specs.Float.Ieee.{of_bits, is_nan, le}
@@ -14,11 +15,13 @@ use Rattle.fast_path.specs.Fast.{compoundf_log2p1_fast, power_place}
 use Rattle.slow_path.specs.Slow.{compoundf_log2p1_accurate}
 use Rattle.compound.specs.Route.{compound}
 
--- t = l×y of the table path is no NaN where the route is not `rule`. So `not (t < 128)` in compound/specs/Route.antt is "t >= 128".
+-- t = l×y of the table path is no NaN where the route is not `rule`. So `not (t < 128)` in compound/specs/Route.antt
+-- is "t >= 128".
 unfoldable pub TNumber : Float → Float → Type 0
 TNumber x y = is_rule x y ≡ false → T (not (is_nan (compoundf_log2p1_fast x ⊗ y)))
 
--- the exponent of the slow path, near y×log2(1 + x), and its k: what `exp2_accurate` in slow_path/specs/Slow.antt makes of it
+-- the exponent of the slow path, near y×log2(1 + x), and its k: what `exp2_accurate` in slow_path/specs/Slow.antt
+-- makes of it
 abbrev pub slow_exponent : Float → Float → DoubleDouble
 slow_exponent x y = quick_mult_f64 (compoundf_log2p1_accurate x) y
 
@@ -29,7 +32,8 @@ slow_k x y = nearest_whole (slow_exponent x y).hi
 abbrev pub slow_rest : Float → Float → Float
 slow_rest x y = (from_exact_add ((slow_exponent x y).hi ⊖ slow_k x y) (slow_exponent x y).lo).hi
 
--- On the route `slow` the index is from 0 to 32 before any cut: index 0 is place 0x10010 (`power_index` in fast_path/specs/Fast.antt).
+-- On the route `slow` the index is from 0 to 32 before any cut: index 0 is place 0x10010 (`power_index` in
+-- fast_path/specs/Fast.antt).
 unfoldable pub IndexInside : Float → Float → Type 0
 IndexInside x y = (compound x y).via ≡ slow → (0x10010 ≤ power_place (slow_rest x y)) × (power_place (slow_rest x y) ≤ 0x10030)
 

@@ -29,7 +29,8 @@ abbrev pub state_after : Result ℕ Refused → State → List ℕ → State
 state_after (Ok n) s p = after s p
 state_after (Err e) s p = s
 
--- the output as it stands afterwards: the answer lines at its front, and the bytes after them as they were; a refused feed leaves all of it
+-- the output as it stands afterwards: the answer lines at its front, and the bytes after them as they were; a refused
+-- feed leaves all of it
 abbrev pub out_after : Result ℕ Refused → State → List ℕ → List ℕ → List ℕ
 out_after (Ok n) s p out = answer_lines (added s p) ++ drop n out
 out_after (Err e) s p out = out

@@ -1,5 +1,7 @@
--- The mission's demand 3, and document 01's paragraphs on it: what every list of feed calls comes to. The sentences stand above what says them.
-use Rattle.std.specs.Prelude.{ℕ, ◌+◌, ◌≡◌, Result, Ok, Err, Bool, true, false, not, cond, List, [], ◌∷◌, ◌++◌, map, eqb, ltb, length, take, drop}
+-- The mission's demand 3, and document 01's paragraphs on it: what every list of feed calls comes to. The sentences
+-- stand above what says them.
+use Rattle.std.specs.Prelude.{ℕ, ◌+◌, ◌≡◌, Result, Ok, Err, Bool, true, false, not, cond, List, [], ◌∷◌, ◌++◌, map}
+use Rattle.std.specs.Prelude.{eqb, ltb, length, take, drop}
 use Rattle.std.specs.Float.{binary32}
 use Rattle.std.specs.Float.Ieee.{of_bits}
 use Rattle.compound.specs.Route.{compound}
@@ -16,15 +18,17 @@ use Rattle.state.specs.Holding.{hold, fresh}
 use Rattle.batch.specs.Feed as Feed
 use Rattle.piece.specs.Piece.{most_lines, replies, answer_lines}
 
--- "Every call brings a piece and an output space, each of any length and content, empty ones too": one call, with what it returned and the output as it stands then
+-- "Every call brings a piece and an output space, each of any length and content, empty ones too": one call, with
+-- what it returned and the output as it stands then
 pub record Call : Type 0 where
   pub piece : List ℕ
   pub out : List ℕ
   pub returned : Fed
   pub out_after : List ℕ
 
--- "The first call gets a fresh state, each later one what the call before returned or left, and nothing else writes to the state in between." R says what a call
--- given a state, a piece and an output space returns, and what it leaves in the output.
+-- "The first call gets a fresh state, each later one what the call before returned or left, and nothing else writes
+-- to the state in between." R says what a call given a state, a piece and an output space returns, and what it leaves
+-- in the output.
 unfoldable pub Calls : (State → List ℕ → List ℕ → Fed → List ℕ → Type 0) → State → List Call → Type 0
 Calls R s [] = Unit
 Calls R s (c ∷ cs) = R s c.piece c.out c.returned c.out_after × Calls R c.returned.state cs
@@ -52,7 +56,8 @@ abbrev pub said : Result ℕ Refused → ℕ
 said (Ok n) = n
 said (Err e) = 0
 
--- "the bytes it wrote are that many from the front of its output, as they stand when it returns. A refused one wrote none."
+-- "the bytes it wrote are that many from the front of its output, as they stand when it returns. A refused one wrote
+-- none."
 abbrev pub wrote : Call → List ℕ
 wrote c = take (said c.returned.verdict) c.out_after
 
@@ -61,13 +66,16 @@ unfoldable pub wrote_all : List Call → List ℕ
 wrote_all [] = []
 wrote_all (c ∷ cs) = wrote c ++ wrote_all cs
 
--- "A call adds the lines whose line feed lies in its piece": after the accepted pieces t, those of the joined bytes that were not complete before
+-- "A call adds the lines whose line feed lies in its piece": after the accepted pieces t, those of the joined bytes
+-- that were not complete before
 unfoldable pub adds : List ℕ → List ℕ → List (List ℕ)
 adds t p = drop (length (lines t)) (lines (t ++ p))
 
--- What a call returns, "from the pieces and output lengths alone": t are the accepted pieces before it. "It is refused with 6 exactly when the line feeds of the
--- accepted pieces before it and of its own piece are together over 4,294,967,295. It is refused with 7 exactly when that isn't so and its output is shorter than the
--- answer lines of the lines it would add. In such a list 5 never comes. An accepted call says the length of the answer lines of the lines it adds".
+-- What a call returns, "from the pieces and output lengths alone": t are the accepted pieces before it. "It is
+-- refused with 6 exactly when the line feeds of the accepted pieces before it and of its own piece are together over
+-- 4,294,967,295. It is refused with 7 exactly when that isn't so and its output is shorter than the answer lines of
+-- the lines it would add. In such a list 5 never comes. An accepted call says the length of the answer lines of the
+-- lines it adds".
 unfoldable pub due : List ℕ → List ℕ → ℕ → Result ℕ Refused
 due t p room =
     cond (ltb most_lines (feeds t + feeds p)) (Err TooManyLines)
@@ -78,7 +86,8 @@ abbrev pub takes : Result ℕ Refused → List ℕ → List ℕ
 takes (Ok n) p = p
 takes (Err e) p = []
 
--- the same for a list of calls, of which it is told the pieces and the output lengths and nothing else; t are the accepted pieces before them
+-- the same for a list of calls, of which it is told the pieces and the output lengths and nothing else; t are the
+-- accepted pieces before them
 unfoldable pub due_all : List ℕ → List (List ℕ × ℕ) → List (Result ℕ Refused)
 due_all t [] = []
 due_all t ((p, room) ∷ asks) = due t p room ∷ due_all (t ++ takes (due t p room) p) asks
@@ -90,8 +99,9 @@ asked cs = map (λ (c : Call). (c.piece, length c.out)) cs
 abbrev pub verdicts : List Call → List (Result ℕ Refused)
 verdicts cs = map (λ (c : Call). c.returned.verdict) cs
 
--- A line that says d, x and y. "An answer line with `r=` has the D of its line, the answer for its x and y, and the route that these take", "as in 2": the answer is the
--- definition's, and the claims hold of it, the bound on whole exponents among them.
+-- A line that says d, x and y. "An answer line with `r=` has the D of its line, the answer for its x and y, and the
+-- route that these take", "as in 2": the answer is the definition's, and the claims hold of it, the bound on whole
+-- exponents among them.
 pub record Answered (l : List ℕ) (d x y : ℕ) : Type 0 where
   pub line_is : l ≡ line_of d x y
   pub told_is : reply_to l ≡ answered d (compound (of_bits binary32 x) (of_bits binary32 y))
@@ -116,7 +126,8 @@ pub record Obeyed (before : List Call) (c : Call) : Type 0 where
 
 -- demand 3, of a list of calls from a fresh state
 pub record Served (cs : List Call) : Type 0 where
-  -- "After it the bytes written, joined, are the answer lines of the complete lines in the joined accepted pieces, one for each, in order."
+  -- "After it the bytes written, joined, are the answer lines of the complete lines in the joined accepted pieces,
+  -- one for each, in order."
   pub bytes_written : wrote_all cs ≡ answer_lines (lines (accepted cs))
   -- "The state's count of lines is the number of those lines,"
   pub lines_counted : (state_of fresh cs).lines ≡ length (lines (accepted cs))
@@ -128,11 +139,13 @@ pub record Served (cs : List Call) : Type 0 where
   pub verdicts_due : verdicts cs ≡ due_all [] (asked cs)
   -- of each call, wherever it stands in the list
   pub each_call : (before : List Call) (c : Call) (later : List Call) → cs ≡ before ++ c ∷ later → Obeyed before c
-  -- "Each line not bad was answered as in 2. Where in such a line y is whole, [..] the answer is at least the nearest f32 to E × (1 - 2^-47) and at most [..]". Here it
-  -- is said of every line that says d, x and y, those of the accepted pieces among them.
+  -- "Each line not bad was answered as in 2. Where in such a line y is whole, [..] the answer is at least the nearest
+  -- f32 to E × (1 - 2^-47) and at most [..]". Here it is said of every line that says d, x and y, those of the
+  -- accepted pieces among them.
   pub each_line : (l : List ℕ) (d x y : ℕ) → read_line l ≡ Ok (pair d x y) → Answered l d x y
 
--- "This holds for every list of feed calls from a fresh state, refused ones among them, each given the state that the one before returned or left."
+-- "This holds for every list of feed calls from a fresh state, refused ones among them, each given the state that the
+-- one before returned or left."
 unfoldable pub Always : (State → List ℕ → List ℕ → Fed → List ℕ → Type 0) → Type 0
 Always R = (cs : List Call) → Calls R fresh cs → Served cs
 

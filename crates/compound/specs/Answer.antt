@@ -1,9 +1,11 @@
--- Document 01, "One pair, one answer": "The answer is one of five routes, each carrying its f32, and no pair is refused".
+-- Document 01, "One pair, one answer": "The answer is one of five routes, each carrying its f32, and no pair is
+-- refused".
 use Rattle.std.specs.Prelude.{ℕ, List, [], ◌∷◌, Float}
 use Rattle.compound.specs.declared.Answer.{Answer}
 use Rattle.compound.specs.declared.Answer.TheVariants.{Rule, Whole, Edge, Fast, Slow}
 use Rattle.compound.specs.declared.Route.{Route}
-use Rattle.compound.specs.declared.Route.TheVariants.{Rule as rule, Whole as whole, Edge as edge, Fast as fast, Slow as slow}
+use Rattle.compound.specs.declared.Route.TheVariants.{Rule as rule, Whole as whole, Edge as edge, Fast as fast}
+use Rattle.compound.specs.declared.Route.TheVariants.{Slow as slow}
 
 -- "W is `rule`, `whole`, `edge`, `fast` or `slow`": the bytes of a route's name
 unfoldable pub word : Route → List ℕ

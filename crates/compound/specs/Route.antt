@@ -4,7 +4,8 @@ use Rattle.std.specs.Float.{fin, binary64}
 use Rattle.std.specs.Float.Ieee.{to_bits, lt, le}
 use Rattle.floats.specs.Operations.{◌⊗◌}
 use Rattle.floats.specs.Narrowing.{narrowed}
-use Rattle.compound.specs.declared.Route.TheVariants.{Rule as rule, Whole as whole, Edge as edge, Fast as fast, Slow as slow}
+use Rattle.compound.specs.declared.Route.TheVariants.{Rule as rule, Whole as whole, Edge as edge, Fast as fast}
+use Rattle.compound.specs.declared.Route.TheVariants.{Slow as slow}
 use Rattle.compound.specs.Answer.{Outcome}
 use Rattle.special.specs.Special as Special
 use Rattle.whole.specs.Whole as Whole
@@ -16,9 +17,9 @@ unfoldable pub decided : Float → Float → Option Float → Outcome
 decided x y (Some v) = record { via = fast; value = narrowed v }
 decided x y None = record { via = slow; value = compoundf_accurate x y }
 
--- "t <= -150 gives +0 and t >= 128 gives +infinity; a pattern of t, shifted left once, of at most 3e6715476ba97f14 gives 1. These are route
--- `edge`." Here t >= 128 is `not (t < 128)`. The two differ for a NaN alone, and no pair has one: that is a part of the contract of `every_answer` in
--- the crate `answers` (`TNumber` in its specs/Reached.antt).
+-- "t <= -150 gives +0 and t >= 128 gives +infinity; a pattern of t, shifted left once, of at most 3e6715476ba97f14
+-- gives 1. These are route `edge`." Here t >= 128 is `not (t < 128)`. The two differ for a NaN alone, and no pair has
+-- one: that is a part of the contract of `every_answer` in the crate `answers` (`TNumber` in its specs/Reached.antt).
 unfoldable pub from_logarithm : Float → Float → Float → Outcome
 from_logarithm x y t =
     cond (le t (fin true 75 (pos 1))) (record { via = edge; value = Special.zero })

@@ -1,5 +1,6 @@
--- Document 01, "Double-double": a double-double is a pair of f64, lo and hi. The non-fma branch is the one ported everywhere, and each
--- operation is fixed by its ordered f64 operations: those of `double_double.rs`, line by line, under the names that the lines have there.
+-- Document 01, "Double-double": a double-double is a pair of f64, lo and hi. The non-fma branch is the one ported
+-- everywhere, and each operation is fixed by its ordered f64 operations: those of `double_double.rs`, line by line,
+-- under the names that the lines have there.
 use Rattle.std.specs.Prelude.{false, pos, Float}
 use Rattle.std.specs.Float.{fin}
 use Rattle.floats.specs.Operations.{◌⊕◌, ◌⊖◌, ◌⊗◌}

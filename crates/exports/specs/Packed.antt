@@ -3,7 +3,8 @@ use Rattle.std.specs.Prelude.{ℕ, ◌+◌, ◌*◌, ◌^◌}
 use Rattle.std.specs.Float.{binary32}
 use Rattle.std.specs.Float.Ieee.{to_bits}
 use Rattle.compound.specs.declared.Route.{Route}
-use Rattle.compound.specs.declared.Route.TheVariants.{Rule as rule, Whole as whole, Edge as edge, Fast as fast, Slow as slow}
+use Rattle.compound.specs.declared.Route.TheVariants.{Rule as rule, Whole as whole, Edge as edge, Fast as fast}
+use Rattle.compound.specs.declared.Route.TheVariants.{Slow as slow}
 use Rattle.compound.specs.Answer.{Outcome}
 
 -- the routes by number, in the order in which document 01 names them; the numbers are ours and not the document's

@@ -1,5 +1,6 @@
 -- Document 01, "One pair, one answer": what the batch program works out between what it reads and what it prints.
-use Rattle.std.specs.Prelude.{ℕ, zero, suc, ◌≡◌, true, ◌⊎◌, List, [], ◌∷◌, ◌++◌, Option, None, Some, Result, Ok, Err, IfOk, take, length}
+use Rattle.std.specs.Prelude.{ℕ, zero, suc, ◌≡◌, true, ◌⊎◌, List, [], ◌∷◌, ◌++◌, Option, None, Some, Result, Ok, Err}
+use Rattle.std.specs.Prelude.{IfOk, take, length}
 use Rattle.std.specs.declared.io.Error.{Error}
 use Rattle.state.specs.declared.State.{State}
 use Rattle.batch.specs.declared.Refused.{Refused as Cause}
@@ -33,8 +34,8 @@ AfterFeed (Err TooManyLines) r = r ≡ Ok (Some End.TooManyLines)
 AfterFeed (Err Broken) r = ⊥
 AfterFeed (Err NoRoom) r = ⊥
 
--- a turn that feeds the piece p to the state s: its state s' is the one that feed returns, what comes next goes by what feed answers, and every byte of the output is as
--- feed leaves it
+-- a turn that feeds the piece p to the state s: its state s' is the one that feed returns, what comes next goes by
+-- what feed answers, and every byte of the output is as feed leaves it
 pub record Answered (s : State) (p out : List ℕ) (next : Next) (s' : State) (out' : List ℕ) : Type 0 where
   pub state_is : s' ≡ (fed s p (length out)).state
   pub next_is : AfterFeed (verdict s p (length out)) next
@@ -45,8 +46,8 @@ pub record Unfed (s : State) (out : List ℕ) (s' : State) (out' : List ℕ) : T
   pub state_is : s' ≡ s
   pub output : out' ≡ out
 
--- A turn after a read that answered `got`, by what it answered: the read failed, the input is at its end, or that many bytes at the front of l were read. At the end
--- the totals come, and the number of closing the state.
+-- A turn after a read that answered `got`, by what it answered: the read failed, the input is at its end, or that
+-- many bytes at the front of l were read. At the end the totals come, and the number of closing the state.
 abbrev pub AfterRead : Result ℕ Error → State → List ℕ → List ℕ → Next → State → List ℕ → Type 0
 AfterRead (Err e) s l out next s' out' = Unfed s out s' out' × OrNothing None next
 AfterRead (Ok zero) s l out next s' out' = Unfed s out s' out' × ((end : End) × ((next ≡ Ok (Some end)) × (number end ≡ close_number (closed s))))
@@ -71,16 +72,17 @@ pub record Refused (cs : List Call) (n : ℕ) : Type 0 where
   pub last_refused : last.returned.verdict ≡ Err TooManyLines
   pub number_is : n ≡ 6
 
--- The turn that ends the reading: there is a list of calls of feed from a fresh state, as in demand 3, which says what they wrote and what their state holds. That state
--- is the one whose totals come, if no failure was told, and the number after them is that of the end of the input or of the refusal.
+-- The turn that ends the reading: there is a list of calls of feed from a fresh state, as in demand 3, which says
+-- what they wrote and what their state holds. That state is the one whose totals come, if no failure was told, and
+-- the number after them is that of the end of the input or of the refusal.
 pub record Run (s : State) (r : Result End Told) : Type 0 where
   pub calls : List Call
   pub made : Calls Did fresh calls
   pub state_is : s ≡ state_of fresh calls
   pub ended : IfOk r (λ end. AtEnd calls (number end) ⊎ Refused calls (number end))
 
--- What is printed after the answer lines: "then one line of totals, then `end=8` if a tail is unfinished", and "after the totals it then prints `end=6` alone". Nothing
--- comes after a failure.
+-- What is printed after the answer lines: "then one line of totals, then `end=8` if a tail is unfinished", and "after
+-- the totals it then prints `end=6` alone". Nothing comes after a failure.
 abbrev pub last_lines : State → Result End Told → List ℕ
 last_lines s (Ok end) = totals s ++ end_line (number end)
 last_lines s (Err told) = []

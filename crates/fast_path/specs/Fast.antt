@@ -1,17 +1,18 @@
--- Document 01, "Table path": `compoundf_log2p1_fast` and `exp2_fast`. "Operations and their order are those of" the source, line by line and
--- under the names that the lines have there.
+-- Document 01, "Table path": `compoundf_log2p1_fast` and `exp2_fast`. "Operations and their order are those of" the
+-- source, line by line and under the names that the lines have there.
 use Rattle.std.specs.Prelude.{ℕ, ◌-◌, ◌/◌, ◌^◌, ◌<◌, ◌≤◌, cond, neg_ℤ, Option, Some, None, to_bits, Float}
 use Rattle.std.specs.Float.{binary64}
 use Rattle.std.specs.Float.Ieee.{of_int, to_signed, lt, ne}
 use Rattle.floats.specs.Operations.{◌⊕◌, ◌⊖◌, ◌⊗◌, f64}
 use Rattle.floats.specs.Narrowing.{narrowed, nearest_whole}
 use Rattle.double_double.specs.DoubleDouble.{dd_fmla}
-use Rattle.tables.specs.Tables.{entry, pair_entry, log2p1_compoundf_inv, log2p1_compoundf_log2_inv, compoundf_exp2_t, compoundf_exp2_u, log2p1_poly_p, expf_poly_q}
+use Rattle.tables.specs.Tables.{entry, pair_entry, log2p1_compoundf_inv, log2p1_compoundf_log2_inv, compoundf_exp2_t}
+use Rattle.tables.specs.Tables.{compoundf_exp2_u, log2p1_poly_p, expf_poly_q}
 use Rattle.special.specs.Special.{one, minus_one}
 use Rattle.fast_path.specs.Scaling.{scaled, exponent_of}
 
--- a, b and c to a value of a×b + c. The evaluations below are over any such `fma`, so that they can be made in another way too; the source's
--- is `dd_fmla`.
+-- a, b and c to a value of a×b + c. The evaluations below are over any such `fma`, so that they can be made in
+-- another way too; the source's is `dd_fmla`.
 abbrev pub MulAdd : Type 0
 MulAdd = Float → Float → Float → Float
 
@@ -52,8 +53,8 @@ inverse_place t = to_bits binary64 (t ⊕ f64 0x4000000000000000) / 2 ^ 45
 unfoldable pub inverse_index : Float → ℕ
 inverse_index t = inverse_place t - 0x2002d
 
--- t has an inverse in the table. The t of every pair has (`reduced_index` in proofs/Index.antt, and `accurate_index` in slow_path/proofs/Scaled.antt for the
--- slow path).
+-- t has an inverse in the table. The t of every pair has (`reduced_index` in proofs/Index.antt, and `accurate_index`
+-- in slow_path/proofs/Scaled.antt for the slow path).
 abbrev pub HasInverse : Float → Type 0
 HasInverse t = (0x2002d ≤ inverse_place t) × (inverse_index t < 46)
 
@@ -86,14 +87,16 @@ power_index r = power_place r - 0x10010
 abbrev pub HasPower : Float → Type 0
 HasPower r = (0x10010 ≤ power_place r) × (power_index r < 33)
 
--- The pattern of 2^r in `exp2_fast`, before it is scaled by 2^k: the i-th power times the polynomial at what is left of r.
+-- The pattern of 2^r in `exp2_fast`, before it is scaled by 2^k: the i-th power times the polynomial at what is left
+-- of r.
 unfoldable pub exp2_reduced : Float → ℕ
 exp2_reduced r =
     let i = power_index r in
     let r' = r ⊖ entry compoundf_exp2_t i in
     to_bits binary64 ((pair_entry compoundf_exp2_u i).hi ⊗ compoundf_expf_poly r')
 
--- The two tests of `exp2_fast`: "a scaled value below the f64 38100000000008e2 is slow, and so is one that fails the rounding test".
+-- The two tests of `exp2_fast`: "a scaled value below the f64 38100000000008e2 is slow, and so is one that fails the
+-- rounding test".
 unfoldable pub rounding_test : Float → Float → Option Float
 rounding_test v err =
     cond (lt v (f64 0x38100000000008e2)) None

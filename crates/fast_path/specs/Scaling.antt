@@ -1,5 +1,5 @@
--- Document 01, "Table path": "the power of two is added to the pattern's exponent field, wrapping"; and what the source takes from that
--- field before it takes a logarithm.
+-- Document 01, "Table path": "the power of two is added to the pattern's exponent field, wrapping"; and what the
+-- source takes from that field before it takes a logarithm.
 use Rattle.std.specs.Prelude.{ℕ, suc, ◌+◌, ◌-◌, ◌*◌, ◌/◌, ◌%◌, ◌^◌, cond, ℤ, pos, negsuc, nat_le}
 use Rattle.std.specs.Float.Ieee.{minus}
 

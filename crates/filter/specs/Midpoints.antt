@@ -1,5 +1,5 @@
--- How near the pattern of an f64 is to a midpoint of two f32s, and the f32 that it is rounded to. Of its digits an f32 drops 29, and at a midpoint
--- these are 2^28. It stands in no document; it is how the filters round.
+-- How near the pattern of an f64 is to a midpoint of two f32s, and the f32 that it is rounded to. Of its digits an
+-- f32 drops 29, and at a midpoint these are 2^28. It stands in no document; it is how the filters round.
 use Rattle.std.specs.Prelude.{ℕ, ◌+◌, ◌-◌, ◌*◌, ◌/◌, ◌%◌, Bool, cond, Option, Some, None, from_bits, nat_lt, Float}
 use Rattle.std.specs.Float.{binary32}
 

@@ -1,6 +1,8 @@
--- The plain evaluation: the fast path's logarithm and power of two with a product and a sum wherever it has a `dd_fmla`. It stands in no document; it is what the filter
--- runs in front, and the theorems say how far it is from the fast path.
-use Rattle.std.specs.Prelude.{◌≡◌, ℕ, ◌+◌, ◌^◌, Bool, true, false, cond, not, ◌&&◌, T, pos, negsuc, Option, Some, None, to_bits, Float}
+-- The plain evaluation: the fast path's logarithm and power of two with a product and a sum wherever it has a
+-- `dd_fmla`. It stands in no document; it is what the filter runs in front, and the theorems say how far it is from
+-- the fast path.
+use Rattle.std.specs.Prelude.{◌≡◌, ℕ, ◌+◌, ◌^◌, Bool, true, false, cond, not, ◌&&◌, T, pos, negsuc, Option, Some}
+use Rattle.std.specs.Prelude.{None, to_bits, Float}
 use Rattle.std.specs.Float.{fin, binary64}
 use Rattle.std.specs.Float.Ieee.{to_signed, neg, lt, le, eq}
 use Rattle.floats.specs.Operations.{◌⊕◌, ◌⊖◌, ◌⊗◌, f64}
@@ -66,7 +68,8 @@ fast_or None other = other
 unfoldable pub rounded_pattern : Float → ℕ → Option Found
 rounded_pattern t w = fast_or (narrowed_pattern margin w) (near_midpoint t w)
 
--- whether k and the index stay the same within `gap`: k switches where |part| is 1/2, and the index where |rest| is 1/64
+-- whether k and the index stay the same within `gap`: k switches where |part| is 1/2, and the index where |rest| is
+-- 1/64
 abbrev pub part_end : Float → Float
 part_end gap = f64 0x3fe0000000000000 ⊖ gap
 

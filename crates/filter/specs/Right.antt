@@ -1,4 +1,5 @@
--- When what the filter finds is right, for t = l×y as the fast path has it: each case says what document 01, "Table path", makes of t.
+-- When what the filter finds is right, for t = l×y as the fast path has it: each case says what document 01, "Table
+-- path", makes of t.
 use Rattle.std.specs.Prelude.{◌≡◌, ◌*◌, ◌%◌, ◌^◌, true, false, pos, Option, Some, None, nat_le, to_bits, Float}
 use Rattle.std.specs.Float.{fin, binary64}
 use Rattle.std.specs.Float.Ieee.{lt, le}
@@ -7,7 +8,8 @@ use Rattle.fast_path.specs.Fast.{exp2_fast}
 use Rattle.filter.specs.declared.Found.{Found}
 use Rattle.filter.specs.declared.Found.TheVariants.{Fast, Slow, Low, High, One}
 
--- t is at no edge: "t <= -150 gives +0 and t >= 128 gives +infinity; a pattern of t, shifted left once, of at most 3e6715476ba97f14 gives 1"
+-- t is at no edge: "t <= -150 gives +0 and t >= 128 gives +infinity; a pattern of t, shifted left once, of at most
+-- 3e6715476ba97f14 gives 1"
 pub record Inside (t : Float) : Type 0 where
   pub above : le t (fin true 75 (pos 1)) ≡ false
   pub below : lt t (fin false 1 (pos 7)) ≡ true

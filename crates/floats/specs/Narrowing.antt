@@ -1,5 +1,5 @@
--- Document 01, "Widening, narrowing, nearest whole". Each is fixed by its value for every pattern. Widening needs no definition: an f32 and
--- the f64 of the same value are the same `Float`.
+-- Document 01, "Widening, narrowing, nearest whole". Each is fixed by its value for every pattern. Widening needs no
+-- definition: an f32 and the f64 of the same value are the same `Float`.
 use Rattle.std.specs.Prelude.{◌≡◌, ℕ, ◌-◌, ◌*◌, ◌^◌, ◌<◌, ◌≤◌, false, T, to_bits, Float}
 use Rattle.std.specs.Float.{nan, inf, fin, binary32, binary64}
 use Rattle.std.specs.Float.Ieee.{up, down, round}
@@ -7,14 +7,16 @@ use Rattle.std.specs.Float.Ieee.Nearest.{closest}
 use Rattle.std.specs.Float.Ieee.Scale.{finite}
 use Rattle.floats.specs.Operations.{◌⊕◌, f64}
 
--- "Narrowing f64 to f32 is nearest, ties to even, with subnormals and overflow to infinity": the exact value, rounded once to binary32
+-- "Narrowing f64 to f32 is nearest, ties to even, with subnormals and overflow to infinity": the exact value, rounded
+-- once to binary32
 unfoldable pub narrowed : Float → Float
 narrowed nan = nan
 narrowed (inf s) = inf s
 narrowed (fin s m e) = round binary32 s (m * up e) (down e)
 
--- The pattern of the f64 of the pattern w plus 2^-97. It stands in no document; it is how a value below the normal f32s is rounded. The last place of the sum is that of an f32
--- below 2^-126, so what the pattern has over that of 2^-97 is the f32's (`low_pattern` in proofs/Laws/Narrow.antt).
+-- The pattern of the f64 of the pattern w plus 2^-97. It stands in no document; it is how a value below the normal
+-- f32s is rounded. The last place of the sum is that of an f32 below 2^-126, so what the pattern has over that of
+-- 2^-97 is the f32's (`low_pattern` in proofs/Laws/Narrow.antt).
 unfoldable pub subnormal_sum : ℕ → ℕ
 subnormal_sum w = to_bits binary64 (f64 w ⊕ f64 0x39e0000000000000)
 
@@ -30,8 +32,9 @@ pub record NearestF32Ends : Type 0 where
   pub infinite : (a c : ℕ) → 0 < c → infinite_from * c ≤ a → nearest_f32 a c ≡ inf false
   pub finite_below : (a c : ℕ) → 0 < c → a < infinite_from * c → T (finite (nearest_f32 a c))
 
--- "`round_ties_even` gives the nearest whole f64, ties to even, and keeps the sign of zero": the whole number nearest to the exact value,
--- with the value's sign. An f64 holds that number (`nearest_whole_exact` in proofs/Laws/Whole.antt), so `round` changes nothing.
+-- "`round_ties_even` gives the nearest whole f64, ties to even, and keeps the sign of zero": the whole number nearest
+-- to the exact value, with the value's sign. An f64 holds that number (`nearest_whole_exact` in
+-- proofs/Laws/Whole.antt), so `round` changes nothing.
 unfoldable pub nearest_whole : Float → Float
 nearest_whole nan = nan
 nearest_whole (inf s) = inf s

@@ -1,5 +1,5 @@
--- The four operations on f64, as the logic's account of IEEE 754 has them, written between their operands, so that definitions above
--- can be read beside the Rust. Each is the exact result rounded once to binary64.
+-- The four operations on f64, as the logic's account of IEEE 754 has them, written between their operands, so that
+-- definitions above can be read beside the Rust. Each is the exact result rounded once to binary64.
 use Rattle.std.specs.Float.{binary64}
 use Rattle.std.specs.Float.Ieee.{add, sub, mul, div}
 use Rattle.std.specs.Prelude.{ℕ, from_bits, Float}

@@ -1,5 +1,5 @@
--- The tests by which `fmla` does without Dekker's product, as they are written. That they suffice is proved in proofs/Settled.antt; the contract of `fmla` itself does not
--- cite them.
+-- The tests by which `fmla` does without Dekker's product, as they are written. That they suffice is proved in
+-- proofs/Settled.antt; the contract of `fmla` itself does not cite them.
 use Rattle.std.specs.Prelude.{Bool, false, ◌&&◌, pos, negsuc, Float}
 use Rattle.std.specs.Float.{fin}
 use Rattle.std.specs.Float.Ieee.{le}

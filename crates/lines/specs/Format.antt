@@ -1,5 +1,6 @@
 -- Document 01, "Batch lines and the reader's state": the input line, without its line feed, and the refusals 1 to 4.
-use Rattle.std.specs.Prelude.{ℕ, ◌+◌, ◌≤◌, ◌<◌, ◌^◌, ◌≡◌, Bool, not, ◌&&◌, ◌||◌, cond, List, [], ◌∷◌, ◌++◌, Result, Ok, Err, eqb, ltb, leb, length, take, drop, get_or}
+use Rattle.std.specs.Prelude.{ℕ, ◌+◌, ◌≤◌, ◌<◌, ◌^◌, ◌≡◌, Bool, not, ◌&&◌, ◌||◌, cond, List, [], ◌∷◌, ◌++◌, Result}
+use Rattle.std.specs.Prelude.{Ok, Err, eqb, ltb, leb, length, take, drop, get_or}
 use Rattle.std.specs.List.{starts_with, take_while}
 use Rattle.text.specs.Bytes.{all}
 use Rattle.text.specs.Digits.{decimal, hex, is_decimal, is_hex, value}

@@ -4,7 +4,8 @@ ghost use Rattle.std.specs.Prelude.{◌≡◌, ◌+◌, length, drop};
 ghost use Rattle.std.specs.List.{take_while};
 ghost use Rattle.text.specs.Digits.{is_decimal, value};
 ghost use Rattle.lines.specs.Fields.{Reads, said};
-ghost use Rattle.lines.specs.Format.{x_key, y_key, id_digits, is_d, has_id, after_id, hex_digits, has_hex, has_x, after_x, has_y, read_line};
+ghost use Rattle.lines.specs.Format.{x_key, y_key, id_digits, is_d, has_id, after_id, hex_digits, has_hex, has_x};
+ghost use Rattle.lines.specs.Format.{after_x, has_y, read_line};
 
 use crate::{LARGEST_ID, LONGEST, Pair, Refusal};
 use text::from_hex;

@@ -1,7 +1,8 @@
 -- Document 01: "the six tallies count them by route or as bad", over the lines.
 use Rattle.std.specs.Prelude.{List, [], ◌∷◌}
 use Rattle.compound.specs.declared.Route.{Route}
-use Rattle.compound.specs.declared.Route.TheVariants.{Rule as rule, Whole as whole, Edge as edge, Fast as fast, Slow as slow}
+use Rattle.compound.specs.declared.Route.TheVariants.{Rule as rule, Whole as whole, Edge as edge, Fast as fast}
+use Rattle.compound.specs.declared.Route.TheVariants.{Slow as slow}
 use Rattle.replies.specs.Reply.{Told, answered, bad}
 use Rattle.state.specs.declared.Tallies.{Tallies}
 use Rattle.state.specs.Tally.{none, plus}

@@ -12,7 +12,8 @@ use Rattle.piece.specs.Counts.{counts}
 abbrev pub most_lines : ℕ
 most_lines = 0xffff_ffff
 
--- an answer line is at most so many bytes longer than its line, each with its line feed (`answer_length` in the proofs of `replies`)
+-- an answer line is at most so many bytes longer than its line, each with its line feed (`answer_length` in the
+-- proofs of `replies`)
 abbrev pub more : ℕ
 more = 5
 
@@ -28,7 +29,8 @@ joined rs = flat_map written rs
 unfoldable pub answer_lines : List (List ℕ) → List ℕ
 answer_lines ls = joined (replies ls)
 
--- The first line that ends in the piece p, after the bytes `so` of a line, is answered with r, and `others` follow its line feed.
+-- The first line that ends in the piece p, after the bytes `so` of a line, is answered with r, and `others` follow
+-- its line feed.
 pub record FirstReply (so p : List ℕ) (r : Told) (others : List ℕ) : Type 0 where
   pub its_replies : replies (lines_from so p) ≡ r ∷ replies (lines others)
   pub its_rest : rest_from so p ≡ rest others

@@ -1,5 +1,5 @@
--- Document 01: "a complete line is what stands before a line feed, from the start or from the line feed before; it may be empty. The unfinished tail is what
--- follows the last line feed, or everything if there is none."
+-- Document 01: "a complete line is what stands before a line feed, from the start or from the line feed before; it
+-- may be empty. The unfinished tail is what follows the last line feed, or everything if there is none."
 use Rattle.std.specs.Prelude.{◌≡◌, ℕ, cond, Option, MatchOption, List, [], ◌∷◌, ◌++◌, eqb, count_by}
 use Rattle.std.specs.List.{position_or_len}
 use denote.Ref.{Bor}
@@ -25,7 +25,8 @@ lines l = lines_from [] l
 unfoldable pub rest : List ℕ → List ℕ
 rest l = rest_from [] l
 
--- One step along the complete lines of l: the first of them, and what is left after its feed; or none, and all of l, the unfinished tail, is left.
+-- One step along the complete lines of l: the first of them, and what is left after its feed; or none, and all of l,
+-- the unfinished tail, is left.
 abbrev pub NextLine : List ℕ → Option (Bor (List ℕ)) → List ℕ → Type 0
 NextLine l r left =
     MatchOption r ((lines l ≡ []) × (rest l ≡ l) × (left ≡ l)) (λ line. (lines l ≡ line.now ∷ lines left) × (rest l ≡ rest left))

@@ -1,4 +1,5 @@
--- The plain value next to 1, and rounding it. It stands in no document; the theorem says when the slow path's value rounds to the same (`near_one` in proofs/NearOne.antt).
+-- The plain value next to 1, and rounding it. It stands in no document; the theorem says when the slow path's value
+-- rounds to the same (`near_one` in proofs/NearOne.antt).
 use Rattle.std.specs.Prelude.{ℕ, Option, to_bits, Float}
 use Rattle.std.specs.Float.{binary64}
 use Rattle.floats.specs.Operations.{◌⊕◌, ◌⊗◌}
@@ -13,6 +14,7 @@ near_one_power z = q2 0 ⊕ (q2 1 ⊕ (q2 3 ⊕ q2 5 ⊗ z) ⊗ z) ⊗ z
 abbrev pub margin : ℕ
 margin = 8
 
--- |t| from 2^-25 to 2^-16 (a smaller |t| would do as well): its pattern, further than that from every midpoint, is rounded to 24 digits; else nothing is sure
+-- |t| from 2^-25 to 2^-16 (a smaller |t| would do as well): its pattern, further than that from every midpoint, is
+-- rounded to 24 digits; else nothing is sure
 unfoldable pub near_one_found : Float → Option Float
 near_one_found t = narrowed_pattern margin (to_bits binary64 (near_one_power t))

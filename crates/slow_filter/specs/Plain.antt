@@ -1,5 +1,5 @@
--- The plain evaluation in front of the slow path, for answers below the normal f32s and next to 1. It stands in no document; the theorem says that what it finds is the slow path's answer
--- (`settled` in proofs/Settled.antt).
+-- The plain evaluation in front of the slow path, for answers below the normal f32s and next to 1. It stands in no
+-- document; the theorem says that what it finds is the slow path's answer (`settled` in proofs/Settled.antt).
 use Rattle.std.specs.Prelude.{Bool, false, cond, ◌&&◌, negsuc, Option, None, Float}
 use Rattle.std.specs.Float.{fin}
 use Rattle.std.specs.Float.Ieee.{to_signed, le, ne}
@@ -7,7 +7,8 @@ use Rattle.floats.specs.Operations.{◌⊗◌, f64}
 use Rattle.floats.specs.Narrowing.{nearest_whole}
 use Rattle.floats.specs.OnBits.{absolute}
 use Rattle.special.specs.Special.{one}
-use Rattle.filter.specs.Plain.{plain_factor, plain_log2p1, part_of, rest_of, plain_pattern, clear_of_switches, is_below_normal}
+use Rattle.filter.specs.Plain.{plain_factor, plain_log2p1, part_of, rest_of, plain_pattern, clear_of_switches}
+use Rattle.filter.specs.Plain.{is_below_normal}
 use Rattle.slow_filter.specs.Subnormal.{subnormal_found}
 use Rattle.slow_filter.specs.NearOne.{near_one_found}
 

@@ -1,5 +1,5 @@
--- Rounding the plain value below the normal f32s. It stands in no document; the theorem says when the slow path's value rounds to the same
--- (`subnormal` in proofs/Subnormal.antt).
+-- Rounding the plain value below the normal f32s. It stands in no document; the theorem says when the slow path's
+-- value rounds to the same (`subnormal` in proofs/Subnormal.antt).
 use Rattle.std.specs.Prelude.{ℕ, ◌+◌, ◌-◌, ◌^◌, ◌≤◌, ◌<◌, cond, eqb, Option, Some, None, ℤ, pos, negsuc, Float}
 use Rattle.std.specs.Float.{binary32}
 use Rattle.std.specs.Float.Ieee.{of_bits}

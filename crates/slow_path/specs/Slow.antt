@@ -1,7 +1,8 @@
--- Document 01, "Table path" and "Traps for the translator": `compoundf_log2p1_accurate` and `compoundf_exp2_accurate`, line by line with the
--- source, at every double-double. One sum stands the other way round, which changes nothing: the source's `2.0 + v_dd.hi` is `inverse_index`'s t + 2,
--- as the fast path has it.
-use Rattle.std.specs.Prelude.{ℕ, ◌+◌, ◌-◌, ◌%◌, ◌^◌, min, Bool, true, false, cond, ◌&&◌, [], ◌∷◌, ℤ, pos, negsuc, ◌==◌, nat_le, to_bits, fold, Float}
+-- Document 01, "Table path" and "Traps for the translator": `compoundf_log2p1_accurate` and
+-- `compoundf_exp2_accurate`, line by line with the source, at every double-double. One sum stands the other way
+-- round, which changes nothing: the source's `2.0 + v_dd.hi` is `inverse_index`'s t + 2, as the fast path has it.
+use Rattle.std.specs.Prelude.{ℕ, ◌+◌, ◌-◌, ◌%◌, ◌^◌, min, Bool, true, false, cond, ◌&&◌, [], ◌∷◌, ℤ, pos, negsuc}
+use Rattle.std.specs.Prelude.{◌==◌, nat_le, to_bits, fold, Float}
 use Rattle.std.specs.Float.{fin, binary32, binary64}
 use Rattle.std.specs.Float.Ieee.{add, lt, le, eq, ne, of_int, to_signed}
 use Rattle.floats.specs.Operations.{◌⊕◌, ◌⊖◌, ◌⊗◌, f64}
@@ -9,7 +10,8 @@ use Rattle.floats.specs.Narrowing.{narrowed, nearest_whole}
 use Rattle.floats.specs.OnBits.{absolute}
 use Rattle.double_double.specs.declared.DoubleDouble.{DoubleDouble}
 use Rattle.double_double.specs.DoubleDouble.{from_exact_add, quick_mult, quick_mult_f64, dd_fmla}
-use Rattle.tables.specs.Tables.{entry, pair_entry, log2p1_compoundf_inv, log2p1_compoundf_log2_inv, compoundf_exp2_t, compoundf_exp2_u, log2p1_scale, log2p1_log2_poly, exp2_poly_q2}
+use Rattle.tables.specs.Tables.{entry, pair_entry, log2p1_compoundf_inv, log2p1_compoundf_log2_inv, compoundf_exp2_t}
+use Rattle.tables.specs.Tables.{compoundf_exp2_u, log2p1_scale, log2p1_log2_poly, exp2_poly_q2}
 use Rattle.special.specs.Special.{zero, one, minus_one}
 use Rattle.fast_path.specs.Scaling.{scaled, biased, exponent_of}
 use Rattle.fast_path.specs.Fast.{inverse_index, power_index}
@@ -21,7 +23,8 @@ p i = entry log2p1_log2_poly i
 abbrev pub q2 : ℕ → Float
 q2 i = entry exp2_poly_q2 i
 
--- What both polynomials do with the coefficient of a degree, for the sum t of its hi and v's: v.hi = t.hi and v.lo += t.lo + lo.
+-- What both polynomials do with the coefficient of a degree, for the sum t of its hi and v's: v.hi = t.hi and v.lo +=
+-- t.lo + lo.
 unfoldable pub with_term : DoubleDouble → DoubleDouble → Float → DoubleDouble
 with_term v t lo = record { lo = v.lo ⊕ (t.lo ⊕ lo); hi = t.hi }
 
@@ -29,8 +32,8 @@ with_term v t lo = record { lo = v.lo ⊕ (t.lo ⊕ lo); hi = t.hi }
 unfoldable pub next_log2 : DoubleDouble → DoubleDouble → ℕ → DoubleDouble
 next_log2 v z i = quick_mult (with_term v (from_exact_add v.hi (p i)) (p (i + 1))) z
 
--- "In `log2_poly2` the loop over the higher coefficients drops h at each turn": the loop runs over entries 11 to 16, and starts with entry 17. So only entry 16 counts
--- (`higher_is` in proofs/LogSize.antt).
+-- "In `log2_poly2` the loop over the higher coefficients drops h at each turn": the loop runs over entries 11 to 16,
+-- and starts with entry 17. So only entry 16 counts (`higher_is` in proofs/LogSize.antt).
 unfoldable pub higher : Float → Float
 higher z = fold (λ h i. dd_fmla z z (p i)) (p 17) (11 ∷ 12 ∷ 13 ∷ 14 ∷ 15 ∷ 16 ∷ [])
 
@@ -69,8 +72,8 @@ log2_reduced e v =
     let z = times_inverse (entry log2p1_compoundf_inv i) v in
     sum_of_logs e (pair_entry log2p1_compoundf_log2_inv i) (log2_poly2 z)
 
--- `compoundf_log2p1_accurate`: near log2(1 + x). The scale is entry e + 29 of LOG2P1_SCALE, and e is `biased` less 1023. Every
--- pair has the entry, and it takes the exponent away (`times_scale` in proofs/Scaled.antt).
+-- `compoundf_log2p1_accurate`: near log2(1 + x). The scale is entry e + 29 of LOG2P1_SCALE, and e is `biased` less
+-- 1023. Every pair has the entry, and it takes the exponent away (`times_scale` in proofs/Scaled.antt).
 unfoldable pub compoundf_log2p1_accurate : Float → DoubleDouble
 compoundf_log2p1_accurate x =
     let v = one_plus x in
@@ -102,9 +105,9 @@ compoundf_exp2_poly2 z =
     let t = from_exact_add (q2 0) q.hi in
     record { lo = q.lo ⊕ t.lo; hi = t.hi }
 
--- "an index below 0 reads entry 0 and one above 32 reads entry 32". The subtraction in `power_index` stops at 0. A sum below 0 has a larger pattern
--- than any above, and so it reads entry 32, as does a NaN. For no pair is the index cut, nor k below (`IndexInside` and `KInside` in
--- answers/specs/Reached.antt).
+-- "an index below 0 reads entry 0 and one above 32 reads entry 32". The subtraction in `power_index` stops at 0. A
+-- sum below 0 has a larger pattern than any above, and so it reads entry 32, as does a NaN. For no pair is the index
+-- cut, nor k below (`IndexInside` and `KInside` in answers/specs/Reached.antt).
 unfoldable pub clamped_index : Float → ℕ
 clamped_index r = min (power_index r) 32
 
@@ -117,13 +120,15 @@ unfoldable pub err_of : Bool → Float
 err_of false = f64 0x3abb100000000000
 err_of true = f64 0x3a2d800000000000
 
--- w of the rounding test: the pattern of q.hi, and where its last 28 bits are -1, 0 or 1, of q.hi + (q.lo + err), scaled
+-- w of the rounding test: the pattern of q.hi, and where its last 28 bits are -1, 0 or 1, of q.hi + (q.lo + err),
+-- scaled
 unfoldable pub test_pattern : DoubleDouble → Float → ℤ → ℕ
 test_pattern q err k =
     let w = to_bits binary64 q.hi in
     cond (nat_le ((w + 1) % 2 ^ 64 % 2 ^ 28) 2) (scaled (to_bits binary64 (q.hi ⊕ (q.lo ⊕ err))) k) w
 
--- whether w has 28 zeros at its end, so that the source's w.wrapping_shl(36) is 0, and q.lo was lost in v, the pattern of q.hi + q.lo
+-- whether w has 28 zeros at its end, so that the source's w.wrapping_shl(36) is 0, and q.lo was lost in v, the
+-- pattern of q.hi + q.lo
 unfoldable pub is_lost : DoubleDouble → ℕ → ℕ → Bool
 is_lost q w v = w % 2 ^ 28 == 0 && eq (f64 v) q.hi && ne q.lo zero
 

@@ -1,4 +1,5 @@
--- Document 01, "Special operands" and "Table path": what is so of x and y past the route `rule`, and all that the table path asks of them.
+-- Document 01, "Special operands" and "Table path": what is so of x and y past the route `rule`, and all that the
+-- table path asks of them.
 use Rattle.std.specs.Prelude.{T, Float}
 use Rattle.std.specs.Float.{binary32}
 use Rattle.std.specs.Float.Ieee.{fits, lt}

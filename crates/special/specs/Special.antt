@@ -35,8 +35,8 @@ is_rule x y = le x minus_one || is_special x || is_special y
 unfoldable pub from_minus_one_to_zero : Float → Bool
 from_minus_one_to_zero x = le minus_one x && lt x zero
 
--- "The special table": for each row whether it fits x and y, and its r. A row with two answers, as `+infinity / -infinity`, is two here. "x < -1"
--- holds of -infinity too.
+-- "The special table": for each row whether it fits x and y, and its r. A row with two answers, as `+infinity /
+-- -infinity`, is two here. "x < -1" holds of -infinity too.
 unfoldable pub special_table : Float → Float → List (Bool × Float)
 special_table x y =
     (is_nan x || is_nan y, nan) ∷
@@ -52,8 +52,8 @@ special_table x y =
     (eq x minus_one && lt zero y, zero) ∷
     (eq x minus_one && lt y zero, +infinity) ∷ []
 
--- "read from top to bottom; the first row that fits answers". Where x and y are of the route, one does (`a_row_fits` in proofs/Rule.antt);
--- elsewhere the NaN below is a choice without effect.
+-- "read from top to bottom; the first row that fits answers". Where x and y are of the route, one does (`a_row_fits`
+-- in proofs/Rule.antt); elsewhere the NaN below is a choice without effect.
 unfoldable pub first_that_fits : List (Bool × Float) → Float
 first_that_fits [] = nan
 first_that_fits ((fits, r) ∷ rows) = cond fits r (first_that_fits rows)

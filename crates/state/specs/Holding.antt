@@ -1,6 +1,7 @@
--- Document 01: "The state holds: 30 bytes of tail, its count (31 marks an over-long line, and then all 30 are zero), the lines so far, and six tallies". And the
--- row of cause 5: which states are broken.
-use Rattle.std.specs.Prelude.{ℕ, ◌+◌, ◌≡◌, Bool, not, ◌||◌, cond, List, ◌++◌, eqb, ltb, leb, length, take, drop, replicate}
+-- Document 01: "The state holds: 30 bytes of tail, its count (31 marks an over-long line, and then all 30 are zero),
+-- the lines so far, and six tallies". And the row of cause 5: which states are broken.
+use Rattle.std.specs.Prelude.{ℕ, ◌+◌, ◌≡◌, Bool, not, ◌||◌, cond, List, ◌++◌, eqb, ltb, leb, length, take, drop}
+use Rattle.std.specs.Prelude.{replicate}
 use Rattle.std.specs.List.{list_all}
 use Rattle.lines.specs.Format.{longest}
 use Rattle.scan.specs.Complete.{feeds}
@@ -16,14 +17,14 @@ over_long = longest + 1
 abbrev pub zeros : List ℕ
 zeros = replicate longest 0
 
--- the tail that holds t. "It is held when the count is its length, the first tail places are its bytes and the others are zero; if longer than the longest line it
--- is marked"
+-- the tail that holds t. "It is held when the count is its length, the first tail places are its bytes and the others
+-- are zero; if longer than the longest line it is marked"
 unfoldable pub hold : List ℕ → Tail
 hold t =
     cond (leb (length t) longest) (record { bytes = t ++ drop (length t) zeros; count = length t }) (record { bytes = zeros; count = over_long })
 
--- the line that a tail holds: as many of its bytes as the count says. The bytes of an over-long line are not kept, and zeros stand for it, one more than the longest
--- line has bytes: every over-long line has the same answer.
+-- the line that a tail holds: as many of its bytes as the count says. The bytes of an over-long line are not kept,
+-- and zeros stand for it, one more than the longest line has bytes: every over-long line has the same answer.
 unfoldable pub carried : Tail → List ℕ
 carried t = cond (eqb t.count over_long) (replicate over_long 0) (take t.count t.bytes)
 
@@ -43,7 +44,8 @@ fresh = record { tail = record { bytes = zeros; count = 0 }; lines = 0; tallies 
 unfoldable pub unused : Tail → ℕ
 unused t = cond (eqb t.count over_long) 0 t.count
 
--- "tail count over 31, byte 10 in the tail, a place past the count (or any place, at 31) not zero, or tallies not adding up to lines"
+-- "tail count over 31, byte 10 in the tail, a place past the count (or any place, at 31) not zero, or tallies not
+-- adding up to lines"
 unfoldable pub broken : State → Bool
 broken s =
     ltb over_long s.tail.count || ltb 0 (feeds s.tail.bytes) || not (list_all (λ b. eqb b 0) (drop (unused s.tail) s.tail.bytes)) || not (eqb (total s.tallies) s.lines)

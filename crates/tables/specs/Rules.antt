@@ -13,7 +13,8 @@ scale_value i = fin false 1 (minus 29 i)
 abbrev pub IsExp2T : ℕ → Float → Type 0
 IsExp2T i x = HasValue x (ltb i 16) (16 - i + (i - 16)) 32
 
--- "entry i of LOG2P1_SCALE is 2^(29 - i) for i from 0 to 157; entry i of COMPOUNDF_EXP2_T is (i - 16)/32 for i from 0 to 32."
+-- "entry i of LOG2P1_SCALE is 2^(29 - i) for i from 0 to 157; entry i of COMPOUNDF_EXP2_T is (i - 16)/32 for i from 0
+-- to 32."
 pub record Rules : Type 0 where
   pub scale : (i : ℕ) → i < 158 → entry log2p1_scale i ≡ scale_value i
   pub exp2_t : (i : ℕ) → i < 33 → IsExp2T i (entry compoundf_exp2_t i)

@@ -24,6 +24,7 @@ counts s =
 unfoldable pub totals : State → List ℕ
 totals s = flat_map counted (counts s) ++ (10 ∷ [])
 
--- "then `end=8` if a tail is unfinished", "after the totals it then prints `end=6` alone": the line of a refusal's number, and nothing for 0
+-- "then `end=8` if a tail is unfinished", "after the totals it then prints `end=6` alone": the line of a refusal's
+-- number, and nothing for 0
 unfoldable pub end_line : ℕ → List ℕ
 end_line n = cond (eqb n 0) [] (counted (101 ∷ 110 ∷ 100 ∷ 61 ∷ [], n) ++ (10 ∷ []))

@@ -7,9 +7,9 @@ use Rattle.floats.specs.Narrowing.{narrowed}
 use Rattle.floats.specs.OnBits.{absolute, is_integer}
 use Rattle.special.specs.Special as Special
 
--- "y whole with |y| <= 16 (pattern shifted left once at most 83000000), |x| below 2^64". The words in brackets are a test of the same on the pattern
--- (`whole_of_patterns` in proofs/Exponent.antt). `is_integer` is false at 0 and true at the infinities and a NaN; a y that is one of these has taken the
--- route `rule` before.
+-- "y whole with |y| <= 16 (pattern shifted left once at most 83000000), |x| below 2^64". The words in brackets are a
+-- test of the same on the pattern (`whole_of_patterns` in proofs/Exponent.antt). `is_integer` is false at 0 and true
+-- at the infinities and a NaN; a y that is one of these has taken the route `rule` before.
 unfoldable pub is_whole : Float → Float → Bool
 is_whole x y = is_integer y && le (absolute y) (fin false 1 (pos 4)) && lt (absolute x) (fin false 1 (pos 64))
 
@@ -21,8 +21,8 @@ is_tiny x = le (absolute x) (fin false 1 (negsuc 28))
 unfoldable pub tiny : Float → Float → Float
 tiny x y = add binary32 Special.one (mul binary32 y x)
 
--- "squared along the bits of |y|": s is squared while a bit of n is left above the lowest, and joins acc where that bit is 1. At most `turns`
--- squarings, and 4 are enough for n up to 16 (`enough` in proofs/Squaring.antt).
+-- "squared along the bits of |y|": s is squared while a bit of n is left above the lowest, and joins acc where that
+-- bit is 1. At most `turns` squarings, and 4 are enough for n up to 16 (`enough` in proofs/Squaring.antt).
 unfoldable pub squarings : ℕ → ℕ → Float → Float → Float
 squarings zero n s acc = acc
 squarings (suc turns) n s acc =

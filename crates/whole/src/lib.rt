@@ -2,7 +2,8 @@
 // and 1 + x is multiplied out in f64. x and y are two parameters, as in the source.
 #![tactic(auto)]
 
-ghost use Rattle.std.specs.Prelude.{◌≡◌, ◌%◌, ◌^◌, ◌<◌, ◌≤◌, true, not, T, if◌then◌else◌, from_bits, is_nan, nat_eq, nat_le, to_bits};
+ghost use Rattle.std.specs.Prelude.{◌≡◌, ◌%◌, ◌^◌, ◌<◌, ◌≤◌, true, not, T, if◌then◌else◌, from_bits, is_nan, nat_eq};
+ghost use Rattle.std.specs.Prelude.{nat_le, to_bits};
 ghost use Rattle.std.specs.Float.{binary32, binary64};
 ghost use Rattle.floats.specs.Narrowing.{narrowed};
 ghost use Rattle.special.specs.Special.{one};
