@@ -15,8 +15,8 @@ use Rattle.fast_path.specs.Fast.{compoundf_log2p1_fast, power_place}
 use Rattle.slow_path.specs.Slow.{compoundf_log2p1_accurate}
 use Rattle.compound.specs.Route.{compound}
 
--- t = l×y of the table path is no NaN where the route is not `rule`. So `not (t < 128)` in compound/specs/Route.antt
--- is "t >= 128".
+-- t = l×y of the table path is no NaN where the route is not `rule`. So each comparison of document 01 with t says what
+-- it says of numbers.
 unfoldable pub TNumber : Float → Float → Type 0
 TNumber x y = is_rule x y ≡ false → T (not (is_nan (compoundf_log2p1_fast x ⊗ y)))
 

@@ -13,7 +13,10 @@ BelowNormal (negsuc n) = (126 ≤ n) × (n < 150)
 
 -- the pattern w, scaled: where 2^25 less and 2^25 more are rounded to one f32, it is the answer; else nothing is sure
 unfoldable pub rounded_subnormal : ℕ → Option Float
-rounded_subnormal w = cond (eqb (subnormal_sum (w - 2 ^ 25)) (subnormal_sum (w + 2 ^ 25))) (Some (of_bits binary32 (subnormal_sum (w - 2 ^ 25) - 0x39e0000000000000))) None
+rounded_subnormal w =
+    let low = subnormal_sum (w - 2 ^ 25) in
+    let high = subnormal_sum (w + 2 ^ 25) in
+    cond (eqb low high) (Some (of_bits binary32 (low - 0x39e0000000000000))) None
 
 -- for the pattern b before it is scaled
 unfoldable pub subnormal_found : ℕ → ℤ → Option Float

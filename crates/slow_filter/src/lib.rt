@@ -27,18 +27,18 @@ use tables::{PolyQ2, Table};
 
 // 2^-27: further than this from a switch of k or of the index, the slow path's own t is on the same side
 // of it.
-const SWITCH_GAP: f64 = f64::from_bits(0x3e40_0000_0000_0000);
+const SLOW_SWITCH_GAP: f64 = f64::from_bits(0x3e40_0000_0000_0000);
 
 // A pattern next to 1 that is further than this from every midpoint of two f32s settles the answer.
-const MARGIN: u64 = 8;
+const NEAR_ONE_MARGIN: u64 = 8;
 
 // 2^-29: below, 1 + x does not keep x.
 const KEPT_FROM: f64 = f64::from_bits(0x3e20_0000_0000_0000);
 
 // 2^-25 and 2^-16: a t of such a size is next to 1.
-const NEXT_FROM: f64 = f64::from_bits(0x3e60_0000_0000_0000);
+const SLOW_NEXT_FROM: f64 = f64::from_bits(0x3e60_0000_0000_0000);
 
-const NEXT_TO: f64 = f64::from_bits(0x3ef0_0000_0000_0000);
+const SLOW_NEXT_TO: f64 = f64::from_bits(0x3ef0_0000_0000_0000);
 
 // The answer of the scaled pattern w, from 2^-151 to 2^-126, where no midpoint of two f32s is within 2^25
 // of it.
@@ -64,7 +64,7 @@ fn subnormal_power(t: f64) -> Option<f32>
     requires t_least { T (le slow_from t) }
     ensures { result ≡ plain.subnormal_power t }
 {
-    rounded_subnormal(Split::of(t).pattern(SWITCH_GAP)?)
+    rounded_subnormal(Split::of(t).pattern(SLOW_SWITCH_GAP)?)
 }
 
 // Near 2^z for |z| <= 2^-16.
@@ -80,10 +80,10 @@ fn near_one_power(z: f64) -> f64
 // For |t| at most 2^-16.
 #[tactic(auto, unfolding(crate::specs::NearOne::near_one_found))]
 fn near_one_found(t: f64) -> Option<f32>
-    requires { T (le (absolute t) plain.next_to) }
+    requires { T (le (absolute t) plain.slow_next_to) }
     ensures { result ≡ near.near_one_found t }
 {
-    narrowed_pattern(f64::to_bits(near_one_power(t)), MARGIN)
+    narrowed_pattern(f64::to_bits(near_one_power(t)), NEAR_ONE_MARGIN)
 }
 
 // The plain logarithm of 1 + x.
@@ -111,7 +111,7 @@ fn next_to_one(y: f64, t: f64) -> bool
     ensures { result ≡ plain.next_to_one y t }
 {
     let size = t.abs();
-    let between = (size <= NEXT_TO) & (size >= NEXT_FROM);
+    let between = (size <= SLOW_NEXT_TO) & (size >= SLOW_NEXT_FROM);
     (y != 1.0) & between
 }
 
