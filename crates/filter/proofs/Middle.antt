@@ -23,7 +23,7 @@ use Rattle.bounds.proofs.Scales.{S, one_is, Bound, at}
 use Rattle.bounds.proofs.Distances.{apart_at}
 use Rattle.bounds.proofs.Apart.{apart_same}
 use Rattle.bounds.proofs.Compared.{le_of_units, units_in_size, units_of_not_lt}
-use Rattle.filter.specs.Plain.{part_of, rest_of, plain_pattern, fast_switch_gap, part_end, rest_end, clear_of_switches, is_tiny_t, Middle}
+use Rattle.filter.specs.Plain.{part_of, rest_of, power_at, plain_pattern, fast_switch_gap, part_end, rest_end, clear_of_switches, is_tiny_t, Middle}
 pub use Rattle.filter.proofs.Limits.{is_minus_124, is_124}
 use Rattle.filter.proofs.Limits.{InsideEdges, inside_edges, middle_bound, part_bound, rest_bound}
 use Rattle.filter.proofs.Power.{Unscaled, power_beside}
@@ -156,4 +156,9 @@ module _ (t : Float) (f : T (fits binary64 t)) (m : Middle t) where
   pub plain_below : clear_of_switches fast_switch_gap (part_of t) (rest_of t) ≡ true → scaled (plain_pattern t) (to_signed 63 (nearest_whole t)) < 1148 * 2 ^ 52
   plain_below e = (plain_range t start e).1
 
-pub ruleset two_steps = (splits_above, splits_below, splits_other, plain_least, plain_below)
+-- the pattern that `Split` scales
+pub pattern_is : (t : Float) → power_at (power_index (part_of t)) (rest_of t) ≡ plain_pattern t
+unfolding plain_pattern
+pattern_is t = refl
+
+pub ruleset two_steps = (splits_above, splits_below, splits_other, plain_least, plain_below, pattern_is)

@@ -97,7 +97,7 @@ fn rounded_pattern(t: f64, w: u64) -> Option<Found>
 
 // For t from -124 to 124 that is not tiny, in two steps: the nearest whole number, and the nearest 32nd
 // to what is left.
-#[tactic(auto, using(crate::proofs::Middle::two_steps), unfolding(crate::specs::Plain::middle_found, crate::specs::Plain::plain_pattern))]
+#[tactic(auto, using(crate::proofs::Middle::two_steps), unfolding(crate::specs::Plain::middle_found))]
 fn in_two_steps(t: f64) -> Option<Found>
     requires { spec.Middle t }
     ensures { result ≡ spec.middle_found t }

@@ -17,9 +17,8 @@ use Rattle.filter.proofs.Power.{part_half}
 use Rattle.filter.proofs.Middle.{four, of_tests}
 use Rattle.filter.proofs.Limits.{between_bound, end_bound, lower_edge_units, upper_edge_units, InsideEdges}
 use Rattle.slow_filter.specs.Plain.{slow_switch_gap, in_reach, slow_next_from, slow_next_to, next_to_one}
-use Rattle.slow_filter.specs.Subnormal.{BelowNormal}
 use Rattle.fast_path.specs.Edges.{lower_edge, upper_edge}
-use Rattle.slow_filter.proofs.BelowNormal.{below_normal}
+use Rattle.slow_filter.proofs.BelowNormal.{BelowNormal, below_normal}
 
 -- ---- the tests, one by one
 three : (a b c : Bool) → (a && (b && c)) ≡ true → (a ≡ true) × (b ≡ true) × (c ≡ true)
@@ -31,7 +30,6 @@ pub record Reached (y t : Float) : Type 0 where
   pub low : le slow_from t ≡ true
 
 pub in_parts : (y t : Float) → in_reach y t ≡ true → Reached y t
-unfolding in_reach
 in_parts y t e =
     let o = three (ne y one) (le t slow_to) (le slow_from t) e in
     record { not_one = o.0; high = o.1; low = o.2 }

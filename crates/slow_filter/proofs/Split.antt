@@ -8,6 +8,7 @@ use Rattle.fast_path.specs.Edges.{lower_edge, upper_edge}
 use Rattle.fast_path.specs.Scaling.{scaled}
 use Rattle.filter.specs.Plain.{part_of, rest_of, plain_pattern, clear_of_switches, slow_from, slow_to}
 use Rattle.filter.proofs.NotZero.{not_zero}
+use Rattle.filter.proofs.Middle.{pattern_is}
 use Rattle.slow_filter.specs.Plain.{slow_switch_gap}
 use Rattle.slow_filter.proofs.Plain.{plain_unscaled}
 use Rattle.slow_filter.proofs.Reach.{reach_edges, reach_some, reach_k}
@@ -32,4 +33,4 @@ module _ (t : Float) (f : T (fits binary64 t)) (most : T (le t slow_to)) (least 
   pub pattern_below : clear_of_switches slow_switch_gap (part_of t) (rest_of t) ≡ true → scaled (plain_pattern t) (to_signed 63 (nearest_whole t)) < 897 * 2 ^ 52
   pattern_below e = (range e).most
 
-pub ruleset split = (splits_above, splits_below, splits_other, pattern_least, pattern_below)
+pub ruleset split = (splits_above, splits_below, splits_other, pattern_least, pattern_below, pattern_is)

@@ -58,7 +58,7 @@ fn rounded_subnormal(w: u64) -> Option<f32>
 }
 
 // For t from -149.5 to -128.
-#[tactic(auto, using(crate::proofs::Split::split), unfolding(crate::specs::Plain::subnormal_power, crate::specs::Subnormal::subnormal_found, filter::specs::Plain::plain_pattern))]
+#[tactic(auto, using(crate::proofs::Split::split), unfolding(crate::specs::Plain::subnormal_power))]
 fn subnormal_power(t: f64) -> Option<f32>
     requires t_most { T (le t slow_to) }
     requires t_least { T (le slow_from t) }
@@ -99,7 +99,6 @@ fn plain_log(base: Base) -> f64
 }
 
 // Whether the plain evaluation is near enough below the normal f32s.
-#[tactic(auto, unfolding(crate::specs::Plain::in_reach))]
 fn in_reach(y: f64, t: f64) -> bool
     ensures { result ≡ plain.in_reach y t }
 {
@@ -116,7 +115,7 @@ fn next_to_one(y: f64, t: f64) -> bool
 }
 
 // What the plain evaluation finds of x and y.
-#[tactic(auto, unfolding(crate::specs::Plain::plain_slow, crate::specs::Plain::in_reach, crate::specs::Plain::next_to_one))]
+#[tactic(auto, unfolding(crate::specs::Plain::plain_slow, crate::specs::Plain::next_to_one))]
 fn plain_slow(pair: Operands) -> Option<f32>
     ensures { result ≡ plain.plain_slow pair.x pair.y }
 {
