@@ -59,7 +59,7 @@ told_most l (Err NoId) e = omega (arith, length_bad 2)
 told_most l (Err NoX) e = omega (arith, length_bad 3)
 told_most l (Err NoY) e = omega (arith, length_bad 4)
 
--- an answer line, with its feed, is longer than its line by six bytes at most
+-- an answer line is longer than its line by five bytes at most, each with its feed; the line's own is the sixth here
 pub answer_length : (l : List ℕ) → length (written (reply_to l)) ≤ length l + 6
 unfolding reply_to
 answer_length l = told_most l (read_line l) refl
