@@ -29,8 +29,8 @@ pub fn take_piece(reader: Reader, piece: &[u8], out: &mut [u8]) -> Taken
     requires countable { reader.lines + line_feeds piece.now ≤ most_lines }
     requires room { length (answer_lines (added reader piece.now)) ≤ length out.old }
     ensures value { result ≡ record {
-        state = state_after_piece reader piece.now;
-        wrote = length (answer_lines (added reader piece.now))
+      state = state_after_piece reader piece.now;
+      wrote = length (answer_lines (added reader piece.now));
     } }
     ensures out_after { out.new ≡ put out.old 0 (answer_lines (added reader piece.now)) }
 {
