@@ -7,15 +7,15 @@ use Rattle.lines.specs.Format.{longest}
 use Rattle.replies.proofs.Lengths.{over_long_lem}
 use Rattle.state.specs.declared.State.{State}
 use Rattle.scan.specs.Complete.{lines_from, rest_from, lines, rest, line_feeds}
-use Rattle.piece.specs.Counts.{tallies_of}
+use Rattle.piece.specs.Tally.{tallies_with, tallies_of}
 use Rattle.state.specs.Holding.{tail_of, held_line, broken, fresh}
-use Rattle.piece.specs.Piece.{replies, joined, answer_lines, added, state_after_piece}
+use Rattle.piece.specs.Piece.{replies, joined_answers, answer_lines, added, state_after_piece}
 use Rattle.batch.specs.Feed.{verdict}
 use Rattle.batch.specs.Series.{adds, due}
 use Rattle.scan.proofs.Cutting.{lines_append, rest_append, line_feeds_append, line_feeds_rest, length_lines}
 use Rattle.state.proofs.Holds.{tail_of_long, held_line_short, held_line_long}
 use Rattle.state.proofs.Unbroken.{unbroken}
-use Rattle.piece.proofs.Replied.{tallies_append, total_tallies_of}
+use Rattle.piece.proofs.Replied.{replies_append, tallies_append, total_tallies_of}
 
 -- over-long lines are the same to all that follows
 same_replies : (p so other : List ℕ) → longest < length so → longest < length other → replies (lines_from so p) ≡ replies (lines_from other p)
@@ -48,7 +48,7 @@ state_after_bytes t = record { tail = tail_of (rest t); lines = length (lines t)
 
 -- nothing taken is a fresh state
 pub state_after_nothing : state_after_bytes [] ≡ fresh
-unfolding state_after_bytes tail_of rest rest_from lines lines_from tallies_of replies
+unfolding state_after_bytes tail_of rest rest_from lines lines_from tallies_with replies
 state_after_nothing = refl
 
 -- the lines of what was taken are as many as its line feeds
@@ -78,7 +78,7 @@ module _ (t : List ℕ) where
 
     pub answers_added : answer_lines (added (state_after_bytes t) p) ≡ answer_lines (adds t p)
     unfolding answer_lines
-    answers_added = ap joined replies_added
+    answers_added = ap joined_answers replies_added
 
     -- what is answered
     pub verdict_due : (room : ℕ) → verdict (state_after_bytes t) p room ≡ due t p room
@@ -88,4 +88,4 @@ module _ (t : List ℕ) where
     -- the state after an accepted piece
     pub state_after_more : state_after_piece (state_after_bytes t) p ≡ state_after_bytes (t ++ p)
     unfolding state_after_piece state_after_bytes rest
-    state_after_more = grind (arith, common_steps, replies_added, rest_held, rest_append, lines_as_line_feeds, line_feeds_append, lines_more, tallies_append)
+    state_after_more = grind (arith, common_steps, replies_added, rest_held, rest_append, lines_as_line_feeds, line_feeds_append, lines_more, replies_append, tallies_append)

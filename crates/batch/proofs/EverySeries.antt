@@ -13,7 +13,7 @@ use Rattle.batch.specs.declared.Refused.{Refused}
 use Rattle.batch.specs.declared.Refused.TheVariants.{Broken, TooManyLines, NoRoom}
 use Rattle.scan.specs.Complete.{lines_from, lines, line_feeds}
 use Rattle.state.specs.Holding.{fresh}
-use Rattle.piece.specs.Piece.{most_lines, replies, joined, answer_lines, state_after_piece}
+use Rattle.piece.specs.Piece.{most_lines, replies, joined_answers, answer_lines, state_after_piece}
 use Rattle.batch.specs.Feed.{feed_number, state_after, out_after, fed, FeedEffect}
 use Rattle.batch.specs.Series.{Call, Calls, state_of, is_accepted, is_refused, accepted, length_said, wrote, wrote_all, adds, due, takes, due_all, asked, verdicts, LineAnswer, CallAsDue, EverySeries, Possible}
 use Rattle.piece.proofs.Replied.{answer_append}
@@ -183,7 +183,7 @@ each_line l d x y e = record { line_is = (both_ways.nothing_else l d x y e).0; r
 
 -- demand 3
 pub every_series : EverySeries FeedEffect
-unfolding EverySeries state_after_bytes lines lines_from answer_lines replies joined
+unfolding EverySeries state_after_bytes lines lines_from answer_lines replies joined_answers
 every_series cs ds =
     let f = from_fresh cs ds in
     let state = fresh_state cs ds in

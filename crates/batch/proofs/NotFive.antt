@@ -8,7 +8,7 @@ use Rattle.state.specs.declared.State.{State}
 use Rattle.state.specs.Holding.{held_line, broken, fresh}
 use Rattle.state.proofs.Unbroken.{adds_up, held_line_feeds, unbroken}
 use Rattle.piece.specs.Piece.{added, state_after_piece}
-use Rattle.piece.proofs.Replied.{total_plus, total_tallies_of}
+use Rattle.piece.proofs.Replied.{total_lines}
 use Rattle.batch.specs.declared.Refused.{Refused}
 use Rattle.batch.specs.declared.Refused.TheVariants.{Broken}
 use Rattle.batch.specs.declared.NotClosed.TheVariants as NotClosed
@@ -25,7 +25,7 @@ module _ (s : State) (h : broken s ≡ false) (p : List ℕ) where
   unfolding state_after_piece added
   piece_unbroken =
       unbroken (state_after_piece s p) (rest_from (held_line s.tail) p) refl (line_feeds_rest p (held_line s.tail) (held_line_feeds s h))
-      (rw (total_plus, total_tallies_of, length_lines, adds_up s h))
+      (rw (total_lines, length_lines, adds_up s h))
 
   pub feed_not_five : (room : ℕ) → verdict s p room ≡ Err Broken → ⊥
   unfolding verdict

@@ -13,7 +13,7 @@ use Rattle.batch.specs.declared.Fed.{Fed}
 use Rattle.batch.specs.declared.Refused.{Refused}
 use Rattle.batch.specs.declared.Refused.TheVariants.{Broken, TooManyLines, NoRoom}
 use Rattle.scan.specs.Complete.{lines, rest, line_feeds}
-use Rattle.piece.specs.Counts.{tallies_of}
+use Rattle.piece.specs.Tally.{tallies_of}
 use Rattle.state.specs.Holding.{tail_of, fresh}
 use Rattle.batch.specs.Feed.{verdict, feed_number, FeedEffect}
 use Rattle.piece.specs.Piece.{most_lines, replies, answer_lines}

@@ -3,8 +3,8 @@
 #![tactic(auto)]
 
 mod answer;
-mod first;
 mod measure;
+mod piece_replies;
 mod tally;
 
 pub use answer::take_piece;

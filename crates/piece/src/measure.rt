@@ -1,13 +1,13 @@
 // Whether the answer lines of a piece have room.
 ghost use Rattle.std.specs.Prelude.{◌≡◌, ◌+◌, ◌-◌, ◌*◌, ◌≤◌, ltb, leb, length};
 ghost use Rattle.std.specs.Option.{SomeIff};
-ghost use Rattle.scan.specs.Complete.{lines_from, lines, line_feeds};
+ghost use Rattle.scan.specs.Complete.{lines_from, line_feeds};
 ghost use Rattle.piece.specs.Piece.{answer_lines, answer_growth, most_lines};
 
-use crate::first::{First, first_reply};
+use crate::piece_replies::PieceReplies;
 use crate::{ANSWER_GROWTH, MOST_LINES};
-use replies::{reply_length, reply_to};
-use scan::{Lines, line_feeds};
+use replies::reply_length;
+use scan::line_feeds;
 use state::Held;
 
 // Whether the lines so far and the line feeds of a piece are more than can be counted. The line feeds
@@ -51,25 +51,13 @@ fn has_room(held: usize, piece: &[u8], room: usize) -> bool
 }
 
 // The room that the answer lines of a piece leave, and none where they do not fit.
-#[tactic(auto, using(crate::proofs::FirstLine::length_more, crate::proofs::FirstLine::no_length))]
+#[tactic(auto, using(crate::proofs::Replied::length_steps))]
 fn room_left(held: Held, piece: &[u8], room: usize) -> Option<usize>
     ensures { let n = length (answer_lines (lines_from held piece.now)) in SomeIff result (n ≤ room) (room - n) }
 {
-    let Ok(First { reply, others }) = first_reply(held, piece) else {
-        return Some(room);
-    };
-    room_after_lines(others, room.checked_sub(reply_length(reply))?)
-}
-
-// The room that the answer lines of the complete lines of some bytes leave, and none where they do not
-// fit.
-#[tactic(auto, using(crate::proofs::Replied::length_first, crate::proofs::Replied::length_none))]
-fn room_after_lines(bytes: &[u8], room: usize) -> Option<usize>
-    ensures { let n = length (answer_lines (lines bytes.now)) in SomeIff result (n ≤ room) (room - n) }
-{
     let mut left = room;
-    for line in (Lines { rest: bytes }) {
-        left = left.checked_sub(reply_length(reply_to(line)))?;
+    for reply in PieceReplies::of(held, piece) {
+        left = left.checked_sub(reply_length(reply))?;
     }
     Some(left)
 }

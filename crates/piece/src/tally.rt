@@ -1,8 +1,8 @@
 // Counting a reply.
-ghost use Rattle.std.specs.Prelude.{◌≡◌, ◌<◌};
+ghost use Rattle.std.specs.Prelude.{◌≡◌, ◌<◌, ◌∷◌, []};
 ghost use Rattle.replies.specs.Reply.{reply_of};
-ghost use Rattle.state.specs.Tally.{plus, total};
-ghost use Rattle.piece.specs.Counts.{tally_of};
+ghost use Rattle.state.specs.Holding.{total};
+ghost use Rattle.piece.specs.Tally.{tallies_with};
 ghost use Rattle.piece.specs.Piece.{most_lines};
 
 use compound::Route;
@@ -10,10 +10,10 @@ use replies::Reply;
 use state::Tallies;
 
 // The tallies with one line more.
-#[tactic(auto, unfolding(state::specs::Tally::total, state::specs::Tally::plus, crate::specs::Counts::tally_of, crate::specs::Counts::tally_of_route))]
+#[tactic(auto, unfolding(state::specs::Holding::total, crate::specs::Tally::tallies_with))]
 pub(crate) fn count_reply(t: Tallies, reply: Reply) -> Tallies
     requires { total t < most_lines }
-    ensures { result ≡ plus t (tally_of (reply_of reply)) }
+    ensures { result ≡ tallies_with t (reply_of reply ∷ []) }
 {
     let mut next = t;
     match reply.map(|answered| answered.answer.route()) {

@@ -11,8 +11,7 @@ use Rattle.lines.specs.Format.{longest}
 use Rattle.state.specs.declared.Tail.{Tail}
 use Rattle.state.specs.declared.State.{State}
 use Rattle.scan.specs.Complete.{line_feed, line_feeds}
-use Rattle.state.specs.Tally.{total}
-use Rattle.state.specs.Holding.{over_long, zeros, tail_of, held_line, Sound, unused, broken}
+use Rattle.state.specs.Holding.{over_long, zeros, tail_of, held_line, total, Sound, unused, broken}
 use Rattle.scan.proofs.Cutting.{line_feeds_append}
 use Rattle.state.proofs.Holds.{Fits, short, long, fits, tail_of_short, tail_of_long, held_line_bytes}
 

@@ -5,7 +5,7 @@ use Rattle.std.specs.Prelude.{replicate}
 use Rattle.std.specs.List.{list_all}
 use Rattle.lines.specs.Format.{longest}
 use Rattle.scan.specs.Complete.{line_feeds}
-use Rattle.state.specs.Tally.{zero_tallies, total}
+use Rattle.state.specs.declared.Tallies.{Tallies}
 use Rattle.state.specs.declared.Tail.{Tail}
 use Rattle.state.specs.declared.State.{State}
 
@@ -38,8 +38,15 @@ abbrev pub Sound : Tail → Type 0
 Sound t = t ≡ tail_of (held_line t)
 
 -- "Fresh: all zero"
+abbrev pub zero_tallies : Tallies
+zero_tallies = record { rule = 0; whole = 0; edge = 0; fast = 0; slow = 0; bad = 0 }
+
 abbrev pub fresh : State
 fresh = record { tail = record { bytes = zeros; count = 0 }; lines = 0; tallies = zero_tallies }
+
+-- what the six tallies add up to
+unfoldable pub total : Tallies → ℕ
+total t = t.rule + t.whole + t.edge + t.fast + t.slow + t.bad
 
 -- the first place of the tail that has to be zero: "a place past the count (or any place, at 31)"
 unfoldable pub unused : Tail → ℕ

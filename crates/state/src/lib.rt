@@ -7,7 +7,6 @@
 mod carry;
 mod held;
 mod reader;
-mod tally;
 
 ghost use Rattle.std.specs.Prelude.{◌≡◌, not, eqb, drop};
 ghost use Rattle.std.specs.List.{list_all};
@@ -50,6 +49,21 @@ pub struct State {
     pub tail: Tail,
     pub lines: u32,
     pub tallies: Tallies,
+}
+
+impl Tallies {
+    // What the six add up to.
+    #[tactic(auto, unfolding(crate::specs::Holding::total))]
+    pub fn total(self) -> u64
+        ensures { result ≡ spec.total self }
+    {
+        u64::from(self.rule)
+            + u64::from(self.whole)
+            + u64::from(self.edge)
+            + u64::from(self.fast)
+            + u64::from(self.slow)
+            + u64::from(self.bad)
+    }
 }
 
 impl State {

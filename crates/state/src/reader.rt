@@ -1,7 +1,6 @@
 // A state that is not broken.
 ghost use Rattle.std.specs.Prelude.{◌≡◌, cond};
-ghost use Rattle.state.specs.Tally.{total};
-ghost use Rattle.state.specs.Holding.{held_line, broken, Sound};
+ghost use Rattle.state.specs.Holding.{held_line, broken, total, Sound};
 
 use crate::{Held, State, Tallies};
 use std::marker::Model;
@@ -16,8 +15,7 @@ pub struct Reader {
 impl Model for Reader {
     ghost use Rattle.std.specs.Prelude.{◌≡◌};
     ghost use Rattle.state.specs.declared.State.{State};
-    ghost use Rattle.state.specs.Tally.{total};
-    ghost use Rattle.state.specs.Holding.{Sound};
+    ghost use Rattle.state.specs.Holding.{total, Sound};
 
     ghost Value = { State };
 

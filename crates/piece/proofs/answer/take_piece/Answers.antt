@@ -1,133 +1,158 @@
--- `take_piece` meets its contract: the line that is held first, then the other lines, then what is left. Assumes nothing.
-use Rattle.std.proofs.Common.{◌≡◌, ℕ, ◌+◌, ◌≤◌, List, ◌++◌, length, sym, ap, ◌∙◌, arith, length-append}
+-- `take_piece` meets its contract: all replies are written and counted, and what is left is held. Assumes nothing.
+use Rattle.std.proofs.Common.{◌≡◌, ℕ, ◌+◌, ◌≤◌, ◌<◌, List, [], ◌∷◌, ◌++◌, length, refl, sym, ap, ◌∙◌, arith, append-nil, append_assoc, length-append, zero-add}
+use Rattle.std.proofs.lemmas.List.{map-append, length-map}
 use Rattle.text.specs.Bytes.{put}
-use Rattle.text.proofs.Put.{length_put, put_put, put_nothing}
-use Rattle.replies.specs.Reply.{Reply, answer_line}
+use Rattle.text.proofs.Put.{put_put, put_nothing}
+use Rattle.replies.specs.Reply.{Reply, reply_to, answer_line}
 use Rattle.state.specs.declared.Tallies.{Tallies}
 use Rattle.state.specs.declared.State.{State}
 use Rattle.piece.specs.declared.Taken.{Taken}
-use Rattle.scan.specs.Complete.{rest_from, lines, rest, line_feeds}
-use Rattle.piece.specs.Counts.{tally_of, tallies_of}
-use Rattle.state.specs.Tally.{plus, total}
-use Rattle.state.specs.Holding.{tail_of, held_line, as_held}
-use Rattle.piece.specs.Piece.{replies, answer_lines, added, state_after_piece, FirstReply, NoneEnds}
+use Rattle.scan.specs.Complete.{lines_from, rest_from, line_feeds}
+use Rattle.scan.proofs.Cutting.{length_lines}
+use Rattle.state.specs.Holding.{tail_of, held_line, as_held, total}
 use Rattle.state.proofs.Holds.{tail_of_as_held}
-use Rattle.piece.proofs.Replied.{lines_total, plus_assoc, plus_zero_tallies, total_plus, total_tally_of}
-use Rattle.piece.proofs.FirstLine.{answers_more, tallies_more, no_answers, no_tallies}
+use Rattle.piece.specs.Tally.{tallies_with}
+use Rattle.piece.specs.Piece.{replies, joined_answers, answer_lines, added, state_after_piece, most_lines}
+use Rattle.piece.proofs.Replied.{joined_append, joined_push, length_first, tallies_append, tallies_none, total_with}
 use Rattle.piece.proofs.answer.take_piece.Goals as goal
+use Rattle.piece.proofs.answer.take_piece.Invariants.{Done}
 
--- a state of a line and tallies, and the bytes written
-abbrev taken : List ℕ → Tallies → ℕ → Taken
-taken l u n = record { state = record { tail = tail_of l; lines = total u; tallies = u }; wrote = n }
+module _ (all : List Reply) (t₀ : Tallies) (out₀ : List ℕ) (done left : List Reply) (out : List ℕ) (place : ℕ) (t : Tallies) (d : Done all t₀ out₀ done left out place t) where
+  -- a reply comes
+  module _ (r : Reply) (later : List Reply) (e : left ≡ r ∷ later) where
+    all_now : all ≡ done ++ r ∷ later
+    all_now = d.all_are ∙ ap (λ (k : List Reply). done ++ k) e
 
+    -- its answer line has room
+    module _ (room : length (joined_answers all) ≤ length out₀) where
+      all_room : length (joined_answers done) + (length (answer_line r) + length (joined_answers later)) ≤ length out₀
+      all_room =
+          omega (
+            arith,
+            ap (λ (k : List Reply). length (joined_answers k)) all_now,
+            ap length (joined_append done (r ∷ later)),
+            length-append (joined_answers done) (joined_answers (r ∷ later)),
+            length_first r later,
+            room,
+          )
+
+      line_room : length out ≡ length out₀ → place + length (answer_line r) ≤ length out
+      line_room h = omega (arith, h, d.place_is, all_room)
+
+      -- and then it is done
+      next : (out' : List ℕ) (place' : ℕ) (t' : Tallies) → place' ≡ place + length (answer_line r) → out' ≡ put out place (answer_line r) → t' ≡ tallies_with t (r ∷ [])
+          → Done all t₀ out₀ (done ++ r ∷ []) later out' place' t'
+      next out' place' t' pe oe te = record {
+        all_are = all_now ∙ sym (append_assoc done (r ∷ []) later);
+        out_is =
+            oe
+            ∙ ap (λ (k : List ℕ). put k place (answer_line r)) d.out_is
+            ∙ ap (λ (k : ℕ). put (put out₀ 0 (joined_answers done)) k (answer_line r)) (d.place_is ∙ sym (zero-add (length (joined_answers done))))
+            ∙ put_put out₀ 0 (joined_answers done) (answer_line r) (omega (arith, all_room))
+            ∙ ap (put out₀ 0) (sym (joined_push done r));
+        place_is = omega (arith, pe, d.place_is, ap length (joined_push done r), length-append (joined_answers done) (answer_line r));
+        tallies_are = te ∙ ap (λ (k : Tallies). tallies_with k (r ∷ [])) d.tallies_are ∙ sym (tallies_append t₀ done (r ∷ []));
+      }
+
+    -- it can be counted
+    countable : total t₀ + length all ≤ most_lines → total t < most_lines
+    countable h = omega (arith, h, ap length all_now, length-append done (r ∷ later), ap total d.tallies_are, total_with t₀ done)
+
+  -- none comes any more
+  all_done : left ≡ [] → done ≡ all
+  all_done e = sym (d.all_are ∙ ap (λ (k : List Reply). done ++ k) e ∙ append-nil done)
+
+nothing_done : (all : List Reply) (t₀ : Tallies) (out₀ : List ℕ) → Done all t₀ out₀ [] all out₀ 0 t₀
+unfolding joined_answers
+nothing_done all t₀ out₀ = record { all_are = refl; out_is = sym (put_nothing out₀ 0); place_is = refl; tallies_are = sym (tallies_none t₀) }
+
+-- the replies to a piece, and the state after it
 module _ (s : State) (p : List ℕ) where
-  -- the result, from its parts
-  taken_is : (l : List ℕ) (u : Tallies) (n : ℕ) → tail_of l ≡ tail_of (rest_from (held_line s.tail) p) → total u ≡ s.lines + line_feeds p → u ≡ plus s.tallies (tallies_of (replies (added s p)))
-      → n ≡ length (answer_lines (added s p)) → taken l u n ≡ record { state = state_after_piece s p; wrote = length (answer_lines (added s p)) }
-  unfolding state_after_piece
-  taken_is l u n a b c d = cc
+  as_many : length (replies (lines_from (held_line s.tail) p)) ≡ line_feeds p
+  unfolding replies
+  as_many = length-map (lines_from (held_line s.tail) p) reply_to ∙ length_lines p (held_line s.tail)
 
-  -- no line ends in the piece
-  module _ (left : List ℕ) (f : NoneEnds (held_line s.tail) p left) where
-    none_taken : total s.tallies ≡ s.lines → taken left s.tallies 0 ≡ record { state = state_after_piece s p; wrote = length (answer_lines (added s p)) }
-    unfolding added
-    none_taken e =
-        taken_is left s.tallies 0
-        (ap tail_of f.all_left ∙ tail_of_as_held (rest_from (held_line s.tail) p))
-        (omega (arith, f.no_line_feeds))
-        (sym (ap (plus s.tallies) (no_tallies _ _ _ f) ∙ plus_zero_tallies s.tallies))
-        (sym (ap length (no_answers _ _ _ f)))
+  module _ (sum : total s.tallies ≡ s.lines) (t : Tallies) (e : t ≡ tallies_with s.tallies (replies (lines_from (held_line s.tail) p))) where
+    all_total : total t ≡ s.lines + line_feeds p
+    all_total = omega (arith, ap total e, total_with s.tallies (replies (lines_from (held_line s.tail) p)), as_many, sum)
 
-    none_out : (out : List ℕ) → out ≡ put out 0 (answer_lines (added s p))
-    unfolding added
-    none_out out = sym (ap (put out 0) (no_answers _ _ _ f) ∙ put_nothing out 0)
+    taken_is : (tail : List ℕ) (place : ℕ) → tail ≡ as_held (rest_from (held_line s.tail) p) → place ≡ length (joined_answers (replies (lines_from (held_line s.tail) p)))
+        → ◌≡◌ {A = Taken} (record { state = record { tail = tail_of tail; lines = total t; tallies = t }; wrote = place }) (record { state = state_after_piece s p; wrote = length (answer_lines (added s p)) })
+    unfolding state_after_piece added answer_lines
+    taken_is tail place a b =
+        let l = ap tail_of a ∙ tail_of_as_held (rest_from (held_line s.tail) p) in
+        let n = all_total in
+        cc
 
-  -- a line ends, which is answered with r
-  module _ (r : Reply) (others : List ℕ) (f : FirstReply (held_line s.tail) p r others) where
-    answers : answer_lines (added s p) ≡ answer_line r ++ answer_lines (lines others)
-    unfolding added
-    answers = answers_more _ _ _ _ f
+  module _ (all : List Reply) (same : all ≡ replies (lines_from (held_line s.tail) p)) (t₀ : Tallies) (start : t₀ ≡ s.tallies) where
+    room : (n : ℕ) → length (answer_lines (added s p)) ≤ n → length (joined_answers all) ≤ n
+    unfolding answer_lines added
+    room n h = rw same h
 
-    -- the answer lines have room
-    module _ (out : List ℕ) (room : length (answer_lines (added s p)) ≤ length out) where
-      both_room : length (answer_line r) + length (answer_lines (lines others)) ≤ length out
-      both_room = rw (← length-append (answer_line r) (answer_lines (lines others)), ← answers) room
+    most : total s.tallies ≡ s.lines → s.lines + line_feeds p ≤ most_lines → total t₀ + length all ≤ most_lines
+    most e h = omega (arith, h, e, ap total start, ap length same, as_many)
 
-      module _ (out₁ : List ℕ) (at : ℕ) (put_first : out₁ ≡ put out 0 (answer_line r)) (after_first : at ≡ 0 + length (answer_line r)) where
-        others_room : at + length (answer_lines (lines others)) ≤ length out₁
-        others_room = omega (arith, both_room, ap length put_first ∙ length_put out 0 (answer_line r) (omega (arith, both_room)))
+    -- what is done in the end
+    module _ (out₀ : List ℕ) (done left : List Reply) (out : List ℕ) (place : ℕ) (t : Tallies) (d : Done all t₀ out₀ done left out place t) (e : left ≡ []) where
+      last : done ≡ replies (lines_from (held_line s.tail) p)
+      last = all_done _ _ _ _ _ _ _ _ d e ∙ same
 
-        all_put : (out₂ : List ℕ) → out₂ ≡ put out₁ at (answer_lines (lines others)) → out₂ ≡ put out 0 (answer_lines (added s p))
-        all_put out₂ e =
-            e
-            ∙ ap (λ (k : List ℕ). put k at (answer_lines (lines others))) put_first
-            ∙ ap (λ (k : ℕ). put (put out 0 (answer_line r)) k (answer_lines (lines others))) after_first
-            ∙ put_put out 0 (answer_line r) (answer_lines (lines others)) (omega (arith, both_room))
-            ∙ ap (put out 0) (sym answers)
+      last_tallies : t ≡ tallies_with s.tallies (replies (lines_from (held_line s.tail) p))
+      last_tallies = d.tallies_are ∙ rw (last, start) refl
 
-    -- the tallies
-    module _ (sum : total s.tallies ≡ s.lines) (t : Tallies) (one_more : t ≡ plus s.tallies (tally_of r)) where
-      one_total : total t ≡ s.lines + 1
-      one_total = omega (arith, ap total one_more ∙ total_plus s.tallies (tally_of r), total_tally_of r)
+      last_place : place ≡ length (joined_answers (replies (lines_from (held_line s.tail) p)))
+      last_place = d.place_is ∙ ap (λ (k : List Reply). length (joined_answers k)) last
 
-      module _ (u : Tallies) (all_more : u ≡ plus t (tallies_of (replies (lines others)))) where
-        all_total : total u ≡ s.lines + line_feeds p
-        all_total = omega (arith, ap total all_more ∙ lines_total t others, one_total, f.its_line_feeds)
+      last_out : out ≡ put out₀ 0 (answer_lines (added s p))
+      unfolding answer_lines added
+      last_out = d.out_is ∙ ap (λ (k : List Reply). put out₀ 0 (joined_answers k)) last
 
-        all_tallies : u ≡ plus s.tallies (tallies_of (replies (added s p)))
-        unfolding added
-        all_tallies =
-            all_more
-            ∙ ap (λ (k : Tallies). plus k (tallies_of (replies (lines others)))) one_more
-            ∙ plus_assoc s.tallies (tally_of r) (tallies_of (replies (lines others)))
-            ∙ ap (plus s.tallies) (sym (tallies_more _ _ _ _ f))
+-- the replies of the code are these
+same_replies : (l k p : List ℕ) (rs : List Reply) → rs ≡ replies (lines_from l p) → l ≡ k → rs ≡ replies (lines_from k p)
+same_replies l k p rs e f = e ∙ ap (λ (m : List ℕ). replies (lines_from m p)) f
 
-        all_taken : (l : List ℕ) (n at : ℕ) → l ≡ as_held (rest others) → at ≡ 0 + length (answer_line r) → n ≡ at + length (answer_lines (lines others))
-            → taken l u n ≡ record { state = state_after_piece s p; wrote = length (answer_lines (added s p)) }
-        all_taken l n at a b c =
-            taken_is l u n
-            (ap tail_of (a ∙ ap as_held (sym f.its_rest)) ∙ tail_of_as_held (rest_from (held_line s.tail) p))
-            all_total all_tallies
-            (omega (arith, ap length answers, length-append (answer_line r) (answer_lines (lines others))))
+pub loop-reply-init : goal.loop-reply-init
+loop-reply-init c = (nothing_done _ _ _, refl)
 
 pub put-at-requires : goal.put-at-requires
 put-at-requires c =
-    let f = rw c.held.ensures at c.in-Ok.ensures in
-    omega (arith, both_room c.args.reader c.args.piece.now _ _ f c.args.out.now c.requires.room)
+    let same = same_replies _ _ _ _ c.of-replies.ensures.replies c.held.ensures in
+    line_room _ _ _ _ _ _ _ _ c.loop-reply.invariant.0 _ _ c.in-Some.ensures.steps.0
+    (room c.args.reader c.args.piece.now _ same _ c.tallies-tallies.ensures.value _ c.requires.room) c.loop-reply.auto.out
 
-pub count_reply-requires : goal.count_reply-requires
-count_reply-requires c = omega (arith, c.in-Ok.ensures.its_line_feeds, c.tallies-tallies.ensures.adds_up, c.requires.countable)
-
-pub write_answer_lines-done-requires-clause-countable : goal.write_answer_lines-done-requires-clause-countable
-write_answer_lines-done-requires-clause-countable c =
-    omega (arith, ap total c.count_reply.ensures ∙ total_plus c.tallies-tallies.result _, total_tally_of, c.in-Ok.ensures.its_line_feeds, c.tallies-tallies.ensures.adds_up, c.requires.countable)
-
-pub write_answer_lines-done-requires-clause-room : goal.write_answer_lines-done-requires-clause-room
-write_answer_lines-done-requires-clause-room c =
-    let f = rw c.held.ensures at c.in-Ok.ensures in
-    others_room c.args.reader c.args.piece.now _ _ f c.args.out.now c.requires.room _ _ c.put-at.ensures.out_after c.put-at.ensures.value
-
-pub state_with-requires-in-Ok : goal.state_with-requires-in-Ok
-state_with-requires-in-Ok c =
-    let f = rw c.held.ensures at c.in-Ok.ensures in
+pub count_reply-tallies-requires : goal.count_reply-tallies-requires
+count_reply-tallies-requires c =
+    let same = same_replies _ _ _ _ c.of-replies.ensures.replies c.held.ensures in
     let v = c.tallies-tallies.ensures.value in
-    omega (arith, all_total c.args.reader c.args.piece.now _ _ f (rw v at c.tallies-tallies.ensures.adds_up) _ (rw v at c.count_reply.ensures) _ c.write_answer_lines-done.ensures.tallies_counted, c.requires.countable)
+    countable _ _ _ _ _ _ _ _ c.loop-reply.invariant.0 _ _ c.in-Some.ensures.steps.0
+    (most c.args.reader c.args.piece.now _ same _ v (rw v at c.tallies-tallies.ensures.adds_up) c.requires.countable)
 
-pub returns-in-Err : goal.returns-in-Err
-returns-in-Err c =
-    let f = rw c.held.ensures at c.in-Err.ensures in
-    let v = c.tallies-tallies.ensures.value in
-    record {
-      value = ap (λ k. record { state = k; wrote = 0 }) c.state_with.ensures ∙ ap (λ k. taken c.in-Err.held k 0) v ∙ none_taken c.args.reader c.args.piece.now _ f (rw v at c.tallies-tallies.ensures.adds_up);
-      out_after = none_out c.args.reader c.args.piece.now _ f c.args.out.now;
-    }
+pub loop-reply-preserved : goal.loop-reply-preserved
+loop-reply-preserved c =
+    let same = same_replies _ _ _ _ c.of-replies.ensures.replies c.held.ensures in
+    let s = c.in-Some.ensures.steps in
+    let r = room c.args.reader c.args.piece.now _ same _ c.tallies-tallies.ensures.value _ c.requires.room in
+    (rw map-append (next _ _ _ _ _ _ _ _ c.loop-reply.invariant.0 _ _ s.0 r _ _ _ c.put-at.ensures.value c.put-at.ensures.out_after c.count_reply-tallies.ensures), s.1 ∙ c.loop-reply.invariant.1)
 
-pub returns-in-Ok : goal.returns-in-Ok
-returns-in-Ok c =
-    let f = rw c.held.ensures at c.in-Ok.ensures in
+pub overflow_cast-result : goal.overflow_cast-result
+overflow_cast-result c =
+    let same = same_replies _ _ _ _ c.of-replies.ensures.replies c.held.ensures in
     let v = c.tallies-tallies.ensures.value in
-    record {
-      value = ap (λ k. record { state = k; wrote = c.write_answer_lines-done.result.at }) c.state_with-in-Ok.ensures
-          ∙ all_taken c.args.reader c.args.piece.now _ _ f (rw v at c.tallies-tallies.ensures.adds_up) _ (rw v at c.count_reply.ensures) _ c.write_answer_lines-done.ensures.tallies_counted _ _ _ (c.extended.ensures ∙ ap (λ k. as_held (k ++ c.write_answer_lines-done.result.rest.now)) c.empty.ensures ∙ ap as_held c.write_answer_lines-done.ensures.rest_follows) c.put-at.ensures.value c.write_answer_lines-done.ensures.at_value;
-      out_after = all_put c.args.reader c.args.piece.now _ _ f c.args.out.now c.requires.room _ _ c.put-at.ensures.out_after c.put-at.ensures.value _ c.write_answer_lines-done.ensures.out_after;
-    }
+    let t = last_tallies c.args.reader c.args.piece.now _ same _ v _ _ _ _ _ _ c.loop-reply.invariant.0 c.in_default.ensures.steps.0 in
+    record { fits = omega (arith, c.total.ensures, all_total c.args.reader c.args.piece.now (rw v at c.tallies-tallies.ensures.adds_up) _ t, c.requires.countable) }
+
+pub returns-clause-value : goal.returns-clause-value
+returns-clause-value c =
+    let same = same_replies _ _ _ _ c.of-replies.ensures.replies c.held.ensures in
+    let v = c.tallies-tallies.ensures.value in
+    let d = c.loop-reply.invariant in
+    let s = c.in_default.ensures.steps in
+    let t = last_tallies c.args.reader c.args.piece.now _ same _ v _ _ _ _ _ _ d.0 s.0 in
+    let n = last_place c.args.reader c.args.piece.now _ same _ v _ _ _ _ _ _ d.0 s.0 in
+    let held = c.unfinished.ensures ∙ s.1 ∙ d.1 ∙ c.of-replies.ensures.rest ∙ ap (λ l. as_held (rest_from l c.args.piece.now)) c.held.ensures in
+    rw (c.into.ensures, c.total.ensures) (taken_is c.args.reader c.args.piece.now (rw v at c.tallies-tallies.ensures.adds_up) _ t _ _ held n)
+
+pub returns-clause-out_after : goal.returns-clause-out_after
+returns-clause-out_after c =
+    let same = same_replies _ _ _ _ c.of-replies.ensures.replies c.held.ensures in
+    last_out c.args.reader c.args.piece.now _ same _ c.tallies-tallies.ensures.value _ _ _ _ _ _ c.loop-reply.invariant.0 c.in_default.ensures.steps.0
