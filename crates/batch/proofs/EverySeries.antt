@@ -2,22 +2,25 @@
 use Rattle.std.proofs.Common.{ℕ, ◌+◌, ◌≤◌, ◌≡◌, refl, sym, ap, ◌∙◌, Bool, true, false, cond, List, [], ◌∷◌, ◌++◌, map, eqb, ltb, length, take, drop, arith, append_assoc}
 use mathlib.Core.List.{append-nil}
 use Rattle.std.proofs.Math.Seq.{take_at}
+use Rattle.std.proofs.lemmas.List.{get_or-map, length-map}
+use Rattle.std.proofs.Common.{get_or, ◌<◌}
 use Rattle.std.proofs.lemmas.Grind.{common_steps}
 use Rattle.std.specs.Prelude.{Result, Ok, Err, is_ok}
 use Rattle.answers.proofs.EveryAnswer.{claims}
 use Rattle.lines.specs.Format.{pair, read_line}
-use Rattle.replies.specs.Reply.{answer_to, reply_to}
+use Rattle.replies.specs.Reply.{answer_to, reply_to, written}
 use Rattle.lines.proofs.BothWays.{both_ways}
 use Rattle.state.specs.declared.State.{State}
 use Rattle.batch.specs.declared.Fed.{Fed}
 use Rattle.batch.specs.declared.Refused.{Refused}
 use Rattle.batch.specs.declared.Refused.TheVariants.{Broken, TooManyLines, NoRoom}
-use Rattle.scan.specs.Complete.{lines_from, lines, feeds}
+use Rattle.scan.specs.Complete.{line_feed, lines_from, lines, feeds}
 use Rattle.state.specs.Holding.{fresh}
 use Rattle.piece.specs.Piece.{most_lines, replies, joined, answer_lines, after}
 use Rattle.batch.specs.Feed.{number, state_after, out_after, fed, Did}
 use Rattle.batch.specs.Series.{Call, Calls, state_of, is_accepted, is_refused, accepted, said, wrote, wrote_all, adds, due, takes, due_all, asked, verdicts, Answered, Obeyed, Served, Always, Possible}
 use Rattle.piece.proofs.Replied.{answer_append}
+use Rattle.piece.proofs.OneFeed.{OneEach, one_each}
 use Rattle.batch.proofs.Carrying.{after_all, after_none, verdict_due, after_more, answers_added, lines_more}
 
 -- none of 5 to 7 is the number of an accepted call, and one of them that of a refused one
@@ -182,14 +185,25 @@ each_line : (l : List ℕ) (d x y : ℕ) → read_line l ≡ Ok (pair d x y) →
 unfolding reply_to answer_to
 each_line l d x y e = record { line_is = (both_ways.nothing_else l d x y e).0; told_is = ap answer_to e; claims = claims x y }
 
+-- the n-th answer line is the answer to the n-th line
+nth_reply : (ls : List (List ℕ)) → OneEach (replies ls) → (n : ℕ) → n < length ls
+    → get_or (lines (answer_lines ls)) n [] ++ line_feed ∷ [] ≡ written (reply_to (get_or ls n []))
+unfolding replies answer_lines
+nth_reply ls each n h =
+    each.nth n (reply_to []) (rw length-map h) ∙ ap written (get_or-map reply_to ls n [] (reply_to []) h)
+
 -- demand 3
 pub every_series : Always Did
 unfolding Always after_all lines lines_from answer_lines replies joined
 every_series cs ds =
     let f = from_fresh cs ds in
     let state = fresh_state cs ds in
+    let each = one_each (replies (lines (accepted cs))) in
     record {
       bytes_written = f.bytes;
+      one_for_each = rw f.bytes (each.as_many ∙ length-map (lines (accepted cs)) reply_to);
+      nth_answered = λ n h. rw f.bytes (nth_reply (lines (accepted cs)) each n h);
+      none_unfinished = rw f.bytes each.none_left;
       lines_counted = rw state;
       tallies_counted = rw state;
       tail_held = rw state;
