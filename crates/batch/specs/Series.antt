@@ -137,7 +137,8 @@ pub record SeriesResult (cs : List Call) : Type 0 where
   pub one_for_each : line_feeds (wrote_all cs) ≡ length (lines (accepted cs))
   pub nth_answered :
       (n : ℕ) → n < length (lines (accepted cs))
-      → get_or (lines (wrote_all cs)) n [] ++ line_feed ∷ [] ≡ answer_line (reply_to (get_or (lines (accepted cs)) n []))
+      → get_or (lines (wrote_all cs)) n [] ++ line_feed ∷ []
+      ≡ answer_line (reply_to (get_or (lines (accepted cs)) n []))
   pub none_unfinished : rest (wrote_all cs) ≡ []
   -- "The state's count of lines is the number of those lines,"
   pub lines_counted : (state_of fresh cs).lines ≡ length (lines (accepted cs))
