@@ -1,5 +1,5 @@
 -- `from_logarithm` meets its contract: its tests are the definition's, and between -150 and 128 the powers have their entries. Assumes nothing.
-use Rattle.std.proofs.Common.{◌≡◌, ◌*◌, ◌%◌, ◌^◌, ◌≤◌, ◌<◌, arith}
+use Rattle.std.proofs.Common.{◌≡◌, true, ◌*◌, ◌%◌, ◌^◌, ◌≤◌, ◌<◌, arith}
 use Rattle.std.proofs.lemmas.Bool.{le-leb, lt-leb}
 use Rattle.std.proofs.lemmas.Float.{T_from_false, lt_of_not-le}
 use lib.Ieee.{binary64, of_bits, neg, to_bits, is_nan}
