@@ -87,12 +87,6 @@ accepted b b' k u v g h w t = record {
         patterns b b' (lifted k) (scaled b k) (scaled b' k) (scaled 0x3d61d00000000000 k) u.low u.high g h (lifted_low k w) (lifted_high k w)
         (scaled_is b k w (large b u) u.high) (scaled_is b' k w (large b' v) v.high) (scaled_is 0x3d61d00000000000 k w (lit≤ tt) (lit< tt))
 
--- ---- the f32 pattern that is left of w, rounded to 24 digits, is that of a number
-abbrev pub left_of : ℕ → ℕ
-left_of w = (w + 0x10000000) / 0x20000000 - 0x1c0000000
-
-pub left_small : (w : ℕ) → w < 1148 * 2 ^ 52 → left_of w ≤ 0x7f800000
-left_small w h = omega arith
-
-pub left_number : (w : ℕ) → w < 1148 * 2 ^ 52 → T (not (nan_bits binary32 (left_of w)))
-left_number w h = number_of_below binary32 (left_of w) (omega (arith, left_small w h))
+-- ---- an f32 pattern up to infinity's is that of a number
+pub left_number : (n : ℕ) → n ≤ 0x7f800000 → T (not (nan_bits binary32 n))
+left_number n h = number_of_below binary32 n (omega (arith, h))

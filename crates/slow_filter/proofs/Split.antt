@@ -6,7 +6,7 @@ use Rattle.floats.specs.Narrowing.{nearest_whole}
 use Rattle.special.specs.Special.{zero}
 use Rattle.fast_path.specs.Edges.{lower_edge, upper_edge}
 use Rattle.fast_path.specs.Scaling.{scaled}
-use Rattle.filter.specs.Plain.{part_of, rest_of, plain_pattern, clear_of_switches, slow_from, slow_to}
+use Rattle.filter.specs.Plain.{part_of, rest_of, plain_pattern, clear_of_switches, below_normal_from, below_normal_to}
 use Rattle.filter.proofs.NotZero.{not_zero}
 use Rattle.filter.proofs.Middle.{pattern_is}
 use Rattle.slow_filter.specs.Plain.{slow_switch_gap}
@@ -14,7 +14,7 @@ use Rattle.slow_filter.proofs.Plain.{plain_unscaled}
 use Rattle.slow_filter.proofs.Reach.{reach_edges, reach_some, reach_k}
 use Rattle.slow_filter.proofs.Subnormal.{Below, scaled_below}
 
-module _ (t : Float) (f : T (fits binary64 t)) (most : T (le t slow_to)) (least : T (le slow_from t)) where
+module _ (t : Float) (f : T (fits binary64 t)) (most : T (le t below_normal_to)) (least : T (le below_normal_from t)) where
   pub splits_above : T (lt lower_edge t)
   splits_above = subst T (sym (reach_edges t f (is_true _ most) (is_true _ least)).above) tt
 

@@ -10,7 +10,7 @@ ghost use Rattle.std.specs.Float.Ieee.Scale.{finite};
 ghost use Rattle.floats.specs.OnBits.{absolute};
 ghost use Rattle.special.specs.Special.{minus_one};
 ghost use Rattle.slow_path.specs.Slow.{compoundf_accurate};
-ghost use Rattle.filter.specs.Plain.{slow_from, slow_to};
+ghost use Rattle.filter.specs.Plain.{below_normal_from, below_normal_to};
 ghost use Rattle.slow_filter.specs.Subnormal as spec;
 ghost use Rattle.slow_filter.specs.NearOne as near;
 ghost use Rattle.slow_filter.specs.Plain as plain;
@@ -60,8 +60,8 @@ fn rounded_subnormal(w: u64) -> Option<f32>
 // For t from -149.5 to -128.
 #[tactic(auto, using(crate::proofs::Split::split), unfolding(crate::specs::Plain::subnormal_power))]
 fn subnormal_power(t: f64) -> Option<f32>
-    requires t_most { T (le t slow_to) }
-    requires t_least { T (le slow_from t) }
+    requires t_most { T (le t below_normal_to) }
+    requires t_least { T (le below_normal_from t) }
     ensures { result ≡ plain.subnormal_power t }
 {
     rounded_subnormal(Split::of(t).pattern(SLOW_SWITCH_GAP)?)
