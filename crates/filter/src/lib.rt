@@ -16,14 +16,14 @@ ghost use Rattle.filter.specs.Right.{Right};
 
 use crate::midpoints::{clear_of_midpoints, narrowed_pattern};
 use crate::plain::Plain;
-use crate::split::{Split, clear_of_index};
+use crate::reduction::{Reduction, clear_of_index};
 use fast_path::evaluation::{log2p1, power};
 use floats::common::is_within;
 use special::operands::Operands;
 
 pub mod midpoints;
 pub mod plain;
-pub mod split;
+pub mod reduction;
 
 // A pattern that is further than this from every midpoint of two f32s settles the answer.
 const FAST_MARGIN: u64 = 0x10_8000;
@@ -102,7 +102,7 @@ fn in_two_steps(t: f64) -> Option<Found>
     requires { spec.Middle t }
     ensures { result ≡ spec.middle_found t }
 {
-    rounded_pattern(t, Split::of(t).pattern(FAST_SWITCH_GAP)?)
+    rounded_pattern(t, Reduction::of(t).pattern(FAST_SWITCH_GAP)?)
 }
 
 // The same in one step, where the nearest 32nd is not halfway between two whole numbers and no switch of

@@ -16,7 +16,7 @@ use Rattle.filter.specs.Plain.{part_of, rest_of, part_end, rest_end, clear_of_sw
 use Rattle.filter.proofs.Power.{part_half}
 use Rattle.filter.proofs.Middle.{four, of_tests}
 use Rattle.filter.proofs.Limits.{between_bound, end_bound, lower_edge_units, upper_edge_units, InsideEdges}
-use Rattle.slow_filter.specs.Plain.{slow_switch_gap, in_reach, slow_next_from, slow_next_to, next_to_one}
+use Rattle.slow_filter.specs.PlainSlow.{slow_switch_gap, in_reach, slow_next_from, slow_next_to, next_to_one}
 use Rattle.fast_path.specs.Edges.{lower_edge, upper_edge}
 use Rattle.slow_filter.proofs.BelowNormal.{BelowNormal, below_normal}
 
