@@ -26,7 +26,7 @@ use Rattle.answers.specs.Exact.{exact_base, exact}
 use Rattle.answers.specs.Claims.{whole_to16, x_in_range, AnyOther}
 use Rattle.answers.specs.Reached.{PastRule, OnSlow}
 use Rattle.answers.specs.Unstarred.{UnstarredPairs}
-use Rattle.answers.specs.Witnesses.{f32, AtEach, AtNone, whole_ys, other_ys, xs_in_range, other_xs, bounded, is_bounded, ends, closed, is_nan_at, nan_answers, found_at, filtered_pairs, Witnesses}
+use Rattle.answers.specs.Witnesses.{f32, AtEach, AtNone, whole_ys, other_ys, xs_in_range, other_xs, bounded, is_bounded, ends, answer_twice, is_nan_at, nan_answers, found_at, filtered_pairs, Witnesses}
 
 -- ---- document 01's rows without a star
 pub unstarred_pairs : UnstarredPairs
@@ -42,7 +42,7 @@ xs : AtEach x_in_range xs_in_range × AtNone x_in_range other_xs
 unfolding of_bits lt le eq is_zero x_in_range
 xs = (refl, refl)
 
-bound : (list_all is_bounded bounded ≡ true) × (map defined bounded ≡ map stated bounded) × (map ends bounded ≡ map closed bounded)
+bound : (list_all is_bounded bounded ≡ true) × (map defined bounded ≡ map stated bounded) × (map ends bounded ≡ map answer_twice bounded)
 unfolding of_bits to_unsigned round add mul div lt le eq is_nan narrowed nearest_f32 absolute is_integer is_zero is_special is_rule is_whole is_tiny tiny squarings power Whole.whole compound whole_to16 x_in_range exact exact_base Exact.raised Exact.raised_inverse
 bound = (refl, refl, refl)
 
