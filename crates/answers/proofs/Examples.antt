@@ -8,7 +8,7 @@ use Rattle.floats.specs.Narrowing.{narrowed, nearest_f32}
 use Rattle.floats.specs.OnBits.{absolute, is_integer}
 use Rattle.special.specs.Special.{one, is_zero, is_special, is_rule, from_minus_one_to_zero, special_table, first_that_fits, special}
 use Rattle.whole.specs.Whole as Whole
-use Rattle.whole.specs.Whole.{is_whole, is_tiny, squarings, power}
+use Rattle.whole.specs.Whole.{is_whole, is_tiny, squarings, whole_power}
 use Rattle.compound.specs.Route.{compound}
 use Rattle.answers.specs.Claims.{answer, NanExactly, SignClear, lower_end, upper_end}
 use Rattle.answers.specs.Witnesses.{f32}
@@ -22,7 +22,7 @@ at_minus_one = refl
 
 -- (1 + 2^63)^-16 is below every f32 but 0: the answer is +0
 pub underflow : SignClear (f32 0x5f000000) (f32 0xc1800000)
-unfolding SignClear of_bits to_bits to_unsigned add mul div lt le eq is_nan narrowed absolute is_integer is_zero is_special is_rule is_whole is_tiny squarings power Whole.whole compound
+unfolding SignClear of_bits to_bits to_unsigned add mul div lt le eq is_nan narrowed absolute is_integer is_zero is_special is_rule is_whole is_tiny squarings whole_power Whole.whole compound
 underflow number = lit< tt
 
 -- whether r is at least the nearest f32 to E × (1 - 2^-47)
@@ -44,7 +44,7 @@ not_in_f32 = refl
 
 -- ---- 2^-54 is not only past the proof, but false: this answer is above the nearest f32 to E × (1 + 2^-54)
 pub answer_of_8 : answer (f32 0x3c55563d) (f32 0x41000000) ≡ f32 0x3f8df512
-unfolding of_bits to_unsigned add mul div lt le eq is_nan narrowed absolute is_integer is_zero is_special is_rule is_whole is_tiny squarings power Whole.whole compound
+unfolding of_bits to_unsigned add mul div lt le eq is_nan narrowed absolute is_integer is_zero is_special is_rule is_whole is_tiny squarings whole_power Whole.whole compound
 answer_of_8 = refl
 
 pub end_of_54 : upper_end 54 (exact (f32 0x3c55563d) (f32 0x41000000)) ≡ f32 0x3f8df511

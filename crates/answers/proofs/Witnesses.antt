@@ -12,12 +12,11 @@ use Rattle.tables.specs.Tables.{entry, from_bit_pair, pair_entry, log2p1_compoun
 use Rattle.special.specs.Special.{one, zero, is_zero, is_special, is_rule, from_minus_one_to_zero, special_table, first_that_fits, special}
 use Rattle.special.specs.Operands.{Tabled}
 use Rattle.whole.specs.Whole as Whole
-use Rattle.whole.specs.Whole.{is_whole, is_tiny, tiny, squarings, power}
+use Rattle.whole.specs.Whole.{is_whole, is_tiny, tiny, squarings, whole_power}
 use Rattle.fast_path.specs.Scaling.{scaled, biased, exponent_of}
 use Rattle.fast_path.specs.Fast.{factor, expf_poly, log2p1, inverse_index, power_index, exp2_reduced, rounding_test, exp2_fast, HasInverse, HasPower}
 use Rattle.filter.specs.Midpoints.{narrowed_pattern}
-use Rattle.filter.specs.Plain as Plain
-use Rattle.filter.specs.Plain.{part_of, rest_of, plain_pattern, near_midpoint, rounded_pattern, middle_found, low_found, high_found, tiny_found, plain_found}
+use Rattle.filter.specs.Plain.{part_of, rest_of, plain_pattern, near_midpoint, rounded_pattern, middle_found, low_found, high_found, tiny_found, is_tiny_t, plain_found}
 use Rattle.slow_path.specs.Slow.{with_term, next_log2, higher, log2_poly2, one_plus, times_inverse, sum_of_logs, log2_reduced, compoundf_log2p1_accurate, next_exp2, highest_exp2, compoundf_exp2_poly2, clamped_index, clamped_k, err_of, test_pattern, is_lost, one_towards, rounded_to_odd, scaled_to_f32, exp2_product, is_small, exp2_away, is_near_one, exp2_accurate, compoundf_accurate}
 use Rattle.compound.specs.Route.{decided, from_logarithm, table_path, compound}
 use Rattle.compound.specs.Starred.{defined, stated}
@@ -43,16 +42,16 @@ unfolding of_bits lt le eq is_zero x_in_range
 xs = (refl, refl)
 
 bound : (list_all is_bounded bounded ≡ true) × (map defined bounded ≡ map stated bounded) × (map ends bounded ≡ map answer_twice bounded)
-unfolding of_bits to_unsigned round add mul div lt le eq is_nan narrowed nearest_f32 absolute is_integer is_zero is_special is_rule is_whole is_tiny tiny squarings power Whole.whole compound whole_to16 x_in_range exact exact_base Exact.raised Exact.raised_inverse
+unfolding of_bits to_unsigned round add mul div lt le eq is_nan narrowed nearest_f32 absolute is_integer is_zero is_special is_rule is_whole is_tiny tiny squarings whole_power Whole.whole compound whole_to16 x_in_range exact exact_base Exact.raised Exact.raised_inverse
 bound = (refl, refl, refl)
 
 -- ---- a number and a NaN
 others : AnyOther (f32 0x3f000000) (f32 0x40000000) × AnyOther (f32 0xbf800000) (f32 0x3f800000) × AnyOther (f32 0x3f800000) (f32 0x43000000)
-unfolding of_bits to_bits to_signed of_int add sub mul lt le eq ne is_nan narrowed nearest_whole absolute is_integer is_zero is_special is_rule is_whole split from_exact_mult from_full_exact_add from_exact_add full_add_f64 dd_fmla entry from_bit_pair pair_entry log2p1_compoundf_inv log2p1_compoundf_log2_inv compoundf_exp2_t compoundf_exp2_u log2p1_poly_p expf_poly_q scaled biased exponent_of inverse_index factor log2p1 expf_poly power_index exp2_reduced rounding_test exp2_fast decided from_logarithm table_path compound to_unsigned div is_tiny tiny squarings power Whole.whole from_minus_one_to_zero special_table first_that_fits special
+unfolding of_bits to_bits to_signed of_int add sub mul lt le eq ne is_nan narrowed nearest_whole absolute is_integer is_zero is_special is_rule is_whole split from_exact_mult from_full_exact_add from_exact_add full_add_f64 dd_fmla entry from_bit_pair pair_entry log2p1_compoundf_inv log2p1_compoundf_log2_inv compoundf_exp2_t compoundf_exp2_u log2p1_poly_p expf_poly_q scaled biased exponent_of inverse_index factor log2p1 expf_poly power_index exp2_reduced rounding_test exp2_fast decided from_logarithm table_path compound to_unsigned div is_tiny tiny squarings whole_power Whole.whole from_minus_one_to_zero special_table first_that_fits special
 others = (tt, tt, tt)
 
 nan_pairs : list_all is_nan_at nan_answers ≡ true
-unfolding of_bits to_bits to_signed of_int add sub mul lt le eq ne is_nan narrowed nearest_whole absolute is_integer is_zero is_special is_rule is_whole split from_exact_mult from_full_exact_add from_exact_add full_add_f64 dd_fmla entry from_bit_pair pair_entry log2p1_compoundf_inv log2p1_compoundf_log2_inv compoundf_exp2_t compoundf_exp2_u log2p1_poly_p expf_poly_q scaled biased exponent_of inverse_index factor log2p1 expf_poly power_index exp2_reduced rounding_test exp2_fast decided from_logarithm table_path compound to_unsigned div is_tiny tiny squarings power Whole.whole from_minus_one_to_zero special_table first_that_fits special
+unfolding of_bits to_bits to_signed of_int add sub mul lt le eq ne is_nan narrowed nearest_whole absolute is_integer is_zero is_special is_rule is_whole split from_exact_mult from_full_exact_add from_exact_add full_add_f64 dd_fmla entry from_bit_pair pair_entry log2p1_compoundf_inv log2p1_compoundf_log2_inv compoundf_exp2_t compoundf_exp2_u log2p1_poly_p expf_poly_q scaled biased exponent_of inverse_index factor log2p1 expf_poly power_index exp2_reduced rounding_test exp2_fast decided from_logarithm table_path compound to_unsigned div is_tiny tiny squarings whole_power Whole.whole from_minus_one_to_zero special_table first_that_fits special
 nan_pairs = refl
 
 -- ---- the routes
@@ -74,7 +73,7 @@ unfolding of_bits to_bits add inverse_index power_index
 indices = ((lit≤ tt, lit< tt), (lit≤ tt, lit< tt))
 
 filter : map (λ p. found_at p.0) filtered_pairs ≡ map (λ p. p.1) filtered_pairs
-unfolding of_bits to_bits to_signed of_int neg add sub mul lt le eq narrowed nearest_whole entry from_bit_pair pair_entry log2p1_compoundf_inv log2p1_compoundf_log2_inv compoundf_exp2_t compoundf_exp2_u log2p1_poly_p expf_poly_q scaled biased exponent_of inverse_index factor log2p1 expf_poly power_index narrowed_pattern part_of rest_of plain_pattern near_midpoint rounded_pattern middle_found low_found high_found tiny_found Plain.is_tiny plain_found
+unfolding of_bits to_bits to_signed of_int neg add sub mul lt le eq narrowed nearest_whole entry from_bit_pair pair_entry log2p1_compoundf_inv log2p1_compoundf_log2_inv compoundf_exp2_t compoundf_exp2_u log2p1_poly_p expf_poly_q scaled biased exponent_of inverse_index factor log2p1 expf_poly power_index narrowed_pattern part_of rest_of plain_pattern near_midpoint rounded_pattern middle_found low_found high_found tiny_found is_tiny_t plain_found
 filter = refl
 
 pub witnesses : Witnesses

@@ -19,7 +19,7 @@ use Rattle.compound.specs.Route.{compound}
 abbrev pub PastRule : Float → Float → Type 0
 PastRule x y = is_rule x y ≡ false
 
--- t = l×y of the table path is no NaN there.
+-- t = l×y of the table path is no NaN there. So each comparison of document 01 with t says what it says of numbers.
 unfoldable pub TNumber : Float → Float → Type 0
 TNumber x y = PastRule x y → T (not (is_nan (compoundf_log2p1_fast x ⊗ y)))
 

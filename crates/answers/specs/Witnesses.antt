@@ -5,12 +5,11 @@ use Rattle.std.specs.Prelude.{ℕ, ◌≡◌, List, [], ◌∷◌, map, Bool, tr
 use Rattle.std.specs.List.{list_all}
 use Rattle.std.specs.Float.{binary32}
 use Rattle.std.specs.Float.Ieee.{of_bits, is_nan}
-use Rattle.floats.specs.Operations.{◌⊗◌}
 use Rattle.special.specs.Special.{zero, one, is_rule}
 use Rattle.special.specs.Operands.{Tabled}
 use Rattle.fast_path.specs.Fast.{HasInverse, HasPower}
 use Rattle.filter.specs.declared.Found.{Found}
-use Rattle.filter.specs.Plain.{plain_log2p1, plain_found}
+use Rattle.filter.specs.Plain.{filtered}
 use Rattle.compound.specs.declared.Route.TheVariants.{Whole as whole}
 use Rattle.compound.specs.Starred.{Row, row, defined, stated}
 use Rattle.answers.specs.Exact.{exact}
@@ -84,7 +83,7 @@ is_nan_at p = is_nan (answer (f32 p.0) (f32 p.1))
 
 -- ---- what the filter finds: each of its cases, and none
 abbrev pub found_at : (ℕ × ℕ) → Option Found
-found_at p = plain_found (plain_log2p1 (f32 p.0) ⊗ f32 p.1)
+found_at p = filtered (f32 p.0) (f32 p.1)
 
 abbrev pub filtered_pairs : List ((ℕ × ℕ) × Option Found)
 filtered_pairs =

@@ -39,9 +39,9 @@ powers_of_one {P} {R} n l h =
 module _ {k : ℕ} (fine : SmallEnough k) (x : Float) (b : Base (exact_base x).top (exact_base x).bottom) where
   -- |x| above 2^-29: the power, or its reciprocal
   by_powers : (t : Bool) (n : ℕ) (d : ℤ) (s : Float) → size n d ≤ 16 → Within 1 (exact_base x).top (exact_base x).bottom s
-      → Near k (exact x (fin t n d)) (narrowed (cond t (one ⊘ Whole.power s (size n d)) (Whole.power s (size n d))))
+      → Near k (exact x (fin t n d)) (narrowed (cond t (one ⊘ Whole.whole_power s (size n d)) (Whole.whole_power s (size n d))))
   unfolding exact Exact.raised Exact.raised_inverse
-  by_powers false n d s l w = between fine (Exact.raised (exact_base x) i) (Whole.power s i) (room b i l).bottom (within_more 33 (omega arith) (power_within b i s l w))
+  by_powers false n d s l w = between fine (Exact.raised (exact_base x) i) (Whole.whole_power s i) (room b i l).bottom (within_more 33 (omega arith) (power_within b i s l w))
     where
       i : ℕ
       i = size n d
@@ -50,9 +50,9 @@ module _ {k : ℕ} (fine : SmallEnough k) (x : Float) (b : Base (exact_base x).t
       i : ℕ
       i = size n d
 
-      go : Reciprocal (2 * i) ((exact_base x).top ^ i) ((exact_base x).bottom ^ i) (one ⊘ Whole.power s i) → Near k (Exact.raised_inverse (exact_base x) i) (narrowed (one ⊘ Whole.power s i))
-      go (normal v) = between fine (Exact.raised_inverse (exact_base x) i) (one ⊘ Whole.power s i) (room b i l).top (within_more 33 (omega arith) v)
-      go (small a c A C v h e) = around_zero fine (Exact.raised_inverse (exact_base x) i) a c (one ⊘ Whole.power s i) (room b i l).top A C (looser 33 (lit≤ tt) (omega arith) v) h e
+      go : Reciprocal (2 * i) ((exact_base x).top ^ i) ((exact_base x).bottom ^ i) (one ⊘ Whole.whole_power s i) → Near k (Exact.raised_inverse (exact_base x) i) (narrowed (one ⊘ Whole.whole_power s i))
+      go (normal v) = between fine (Exact.raised_inverse (exact_base x) i) (one ⊘ Whole.whole_power s i) (room b i l).top (within_more 33 (omega arith) v)
+      go (small a c A C v h e) = around_zero fine (Exact.raised_inverse (exact_base x) i) a c (one ⊘ Whole.whole_power s i) (room b i l).top A C (looser 33 (lit≤ tt) (omega arith) v) h e
 
   -- |x| at most 2^-29: 1
   by_one : (t : Bool) (n : ℕ) (d : ℤ) → size n d ≤ 16 → WithinFactors (2 ^ 29 - 1) (2 ^ 29) 1 (exact_base x).top (exact_base x).bottom 1 1 → Near k (exact x (fin t n d)) one
@@ -90,14 +90,14 @@ module _
         sum : Float
         sum = fin s m e ⊕ one
 
-        far : (i : ℕ) (u : Bool) → i ≡ size n d → u ≡ t → Near k E (narrowed (cond u (one ⊘ Whole.power sum i) (Whole.power sum i)))
+        far : (i : ℕ) (u : Bool) → i ≡ size n d → u ≡ t → Near k E (narrowed (cond u (one ⊘ Whole.whole_power sum i) (Whole.whole_power sum i)))
         far i u p q =
-            subst (λ (i : ℕ). Near k E (narrowed (cond u (one ⊘ Whole.power sum i) (Whole.power sum i)))) (sym p)
-            (subst (λ (u : Bool). Near k E (narrowed (cond u (one ⊘ Whole.power sum (size n d)) (Whole.power sum (size n d))))) (sym q)
+            subst (λ (i : ℕ). Near k E (narrowed (cond u (one ⊘ Whole.whole_power sum i) (Whole.whole_power sum i)))) (sym p)
+            (subst (λ (u : Bool). Near k E (narrowed (cond u (one ⊘ Whole.whole_power sum (size n d)) (Whole.whole_power sum (size n d))))) (sym q)
             (by_powers fine (fin s m e) b t n d sum to_16 (sum_within s m e above b)))
 
         go : (u : Bool) → is_tiny (fin s m e) ≡ u
-            → Near k E (cond u (Whole.tiny (fin s m e) (fin t n d)) (let acc = Whole.power sum (to_unsigned 32 (absolute (fin t n d))) in narrowed (cond (lt (fin t n d) Special.zero) (one ⊘ acc) acc)))
+            → Near k E (cond u (Whole.tiny (fin s m e) (fin t n d)) (let acc = Whole.whole_power sum (to_unsigned 32 (absolute (fin t n d))) in narrowed (cond (lt (fin t n d) Special.zero) (one ⊘ acc) acc)))
         go true h = subst (Near k E) (sym (tiny_is_one (fin s m e) (fin t n d) route h)) (by_one fine (fin s m e) b t n d to_16 (tiny_close s m e h))
         go false h = far (to_unsigned 32 (absolute (fin t n d))) (lt (fin t n d) Special.zero) (cast_is t n d to_16) (sign_is t n d (pos_of_div-pos (down d) from_1))
 
