@@ -99,7 +99,7 @@ float_to_float-x c = widens (goal.at.float_to_float-x c).Start
 
 pub overflow_mul-n : goal.overflow_mul-n
 unfolding of_bits
-overflow_mul-n c = record { fits = no_more _ (leb (to_bits binary32 c.args.x % 2 ^ 31) 0x3100_0000) (to_unsigned-lt 32 _) }
+overflow_mul-n c = record { fits = no_more _ _ (to_unsigned-lt 32 _) }
 
 pub whole_power-acc-requires : goal.whole_power-acc-requires
 unfolding of_bits
