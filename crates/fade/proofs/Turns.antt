@@ -7,7 +7,7 @@ use Rattle.state.specs.declared.State.{State}
 use Rattle.state.specs.Holding.{fresh, broken}
 use Rattle.batch.specs.declared.Refused.{Refused as Cause}
 use Rattle.batch.specs.declared.Refused.TheVariants.{Broken, TooManyLines, NoRoom}
-use Rattle.batch.specs.Feed.{verdict, number as number_of, fed, Did, closed, close_number}
+use Rattle.batch.specs.Feed.{verdict, feed_number as number_of, fed, FeedEffect, closed, close_number}
 use Rattle.batch.specs.Series.{Call, Calls, state_of, is_accepted}
 use Rattle.batch.proofs.InPieces.{calls_more, state_more}
 use Rattle.batch.proofs.NotFive.{fed_unbroken}
@@ -31,7 +31,7 @@ accepted_more c (b ∷ cs) (e, es) a = (e, accepted_more c cs es a)
 -- the calls up to a turn: all were accepted, and s is their state
 pub record Come (s : State) : Type 0 where
   pub calls : List Call
-  pub made : Calls Did fresh calls
+  pub made : Calls FeedEffect fresh calls
   pub state_is : s ≡ state_of fresh calls
   pub all_accepted : AllAccepted calls
 
@@ -55,7 +55,7 @@ module _ (s : State) (p out : List ℕ) (s' : State) (out' : List ℕ) (m : Come
   abbrev call : Call
   call = record { piece = p; out = out; returned = fed s p (length out); out_after = out' }
 
-  made_more : Calls Did fresh (m.calls ++ call ∷ [])
+  made_more : Calls FeedEffect fresh (m.calls ++ call ∷ [])
   made_more = calls_more call fresh m.calls m.made (rw (← m.state_is) (record { result = refl; output = a.output }))
 
   its_state : s' ≡ state_of fresh (m.calls ++ call ∷ [])

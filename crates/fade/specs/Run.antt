@@ -6,7 +6,7 @@ use Rattle.state.specs.declared.State.{State}
 use Rattle.batch.specs.declared.Refused.{Refused as Cause}
 use Rattle.batch.specs.declared.Refused.TheVariants.{Broken, TooManyLines, NoRoom}
 use Rattle.state.specs.Holding.{fresh}
-use Rattle.batch.specs.Feed.{verdict, fed, out_after, Did, closed, close_number}
+use Rattle.batch.specs.Feed.{verdict, fed, out_after, FeedEffect, closed, close_number}
 use Rattle.totals.specs.Totals.{totals, end_line}
 use Rattle.batch.specs.Series.{Call, Calls, state_of, is_accepted}
 use Rattle.fade.specs.declared.End.{End}
@@ -77,7 +77,7 @@ pub record Refused (cs : List Call) (n : ℕ) : Type 0 where
 -- the number after them is that of the end of the input or of the refusal.
 pub record Run (s : State) (r : Result End Told) : Type 0 where
   pub calls : List Call
-  pub made : Calls Did fresh calls
+  pub made : Calls FeedEffect fresh calls
   pub state_is : s ≡ state_of fresh calls
   pub ended : IfOk r (λ end. AtEnd calls (number end) ⊎ Refused calls (number end))
 
