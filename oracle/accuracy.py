@@ -14,9 +14,11 @@ from decimal import Decimal
 from fractions import Fraction
 from pathlib import Path
 
-import picture
 from mpmath import mp, mpf
 from mpmath.libmp import from_man_exp, mpf_exp, mpf_log, mpf_mul
+
+sys.dont_write_bytecode = True  # so that what is built stays under target/
+import picture
 
 ORACLE = Path(__file__).resolve().parent.parent / "target/oracle/oracle"
 ROUTES = ["rule", "whole", "edge", "fast", "slow"]
@@ -731,10 +733,14 @@ def every(run):
 
 # The budget of one answer, from the decimals of a data sheet to the factor: each part is a difference of two values,
 # and together they are what the answer is off by. X and Y are the decimals, x and y the f32s that stand for them.
+# Returns false where there is none: x has to be above -1, and the answer normal.
 def budget(given_x, given_y):
     mp.prec = 2 * BITS
-    X, Y = (mpf(n.numerator) / n.denominator for n in (Fraction(given_x), Fraction(given_y)))
     x, y = pattern(float(given_x)), pattern(float(given_y))
+    if not (-1 < number(x) < math.inf and -126 < exponent(x, y) < 127):
+        print("accuracy: a budget takes an x above -1 and an answer from 2^-126 to 2^127", file=sys.stderr)
+        return False
+    X, Y = (mpf(n.numerator) / n.denominator for n in (Fraction(given_x), Fraction(given_y)))
     (_, _, r, via), = ask([(x, y)])
     right, value = exact(x, y)
     ulp = mpf(2) ** last_place(*value)
@@ -763,13 +769,13 @@ def budget(given_x, given_y):
     low, high = ((1 + X + d) ** Y for d in (-half, half))
     print()
     print(f"X is known to {float(half):g}: from {float(low):.4f} to {float(high):.4f} is left")
+    return True
 
 
 # Does what the arguments say: every, picture, budget X Y, or [slow] [count] [range]...
 def main(words):
     if words[:1] == ["budget"] and len(words) == 3:
-        budget(*words[1:])
-        return 0
+        return 0 if budget(*words[1:]) else 2
     if words == ["every"]:
         self_test()
         run = Run(0, False)

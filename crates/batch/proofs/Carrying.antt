@@ -1,5 +1,5 @@
 -- The state that holds what was taken: it is not broken, and feeding it is feeding a piece after what was taken. Assumes nothing.
-use Rattle.std.proofs.Common.{ℕ, ◌<◌, ◌≡◌, refl, ap, false, List, [], ◌∷◌, ◌++◌, length, arith}
+use Rattle.std.proofs.Common.{◌∙◌, drop, ℕ, ◌<◌, ◌≡◌, refl, ap, false, List, [], ◌∷◌, ◌++◌, length, arith}
 use Rattle.std.proofs.Math.Seq.{drop-append_seam}
 use Rattle.std.proofs.lemmas.Grind.{common_steps}
 use Rattle.std.proofs.lemmas.Bool.Decides.{nat_tests}
@@ -66,7 +66,9 @@ module _ (t : List ℕ) where
     -- the lines that a piece adds come after those that were complete
     adds_are : adds t p ≡ lines_from (rest t) p
     unfolding adds lines rest
-    adds_are = rw lines_append (drop-append_seam (lines_from [] t) (lines_from (rest_from [] t) p))
+    adds_are =
+        ap (λ (ls : List (List ℕ)). drop (length (lines_from [] t)) ls) (lines_append t p [])
+        ∙ drop-append_seam (lines_from [] t) (lines_from (rest_from [] t) p)
 
     pub lines_more : lines (t ++ p) ≡ lines t ++ adds t p
     unfolding lines rest

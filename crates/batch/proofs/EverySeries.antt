@@ -2,21 +2,24 @@
 use Rattle.std.proofs.Common.{ℕ, ◌+◌, ◌≤◌, ◌≡◌, refl, sym, ap, ◌∙◌, Bool, true, false, cond, List, [], ◌∷◌, ◌++◌, map, eqb, ltb, length, take, drop, arith, append_assoc}
 use mathlib.Core.List.{append-nil}
 use Rattle.std.proofs.Math.Seq.{take_at}
+use Rattle.std.proofs.lemmas.List.{get_or-map, length-map}
+use Rattle.std.proofs.Common.{get_or, ◌<◌}
 use Rattle.std.proofs.lemmas.Grind.{common_steps}
 use Rattle.std.specs.Prelude.{Result, Ok, Err, is_ok}
 use Rattle.answers.proofs.EveryAnswer.{claims}
 use Rattle.lines.specs.Format.{pair, read_line}
-use Rattle.replies.specs.Reply.{reply_to_read, reply_to}
+use Rattle.replies.specs.Reply.{reply_to_read, reply_to, answer_line}
 use Rattle.lines.proofs.BothWays.{both_ways}
 use Rattle.state.specs.declared.State.{State}
 use Rattle.batch.specs.declared.Refused.{Refused}
 use Rattle.batch.specs.declared.Refused.TheVariants.{Broken, TooManyLines, NoRoom}
-use Rattle.scan.specs.Complete.{lines_from, lines, line_feeds}
+use Rattle.scan.specs.Complete.{line_feed, lines_from, lines, line_feeds}
 use Rattle.state.specs.Holding.{fresh}
 use Rattle.piece.specs.Piece.{most_lines, replies, joined_answers, answer_lines, state_after_piece}
 use Rattle.batch.specs.Feed.{feed_number, state_after, out_after, fed, FeedEffect}
 use Rattle.batch.specs.Series.{Call, Calls, state_of, is_accepted, is_refused, accepted, length_said, wrote, wrote_all, adds, due, takes, due_all, asked, verdicts, LineAnswer, CallAsDue, EverySeries, Possible}
 use Rattle.piece.proofs.Replied.{answer_append}
+use Rattle.piece.proofs.OneFeed.{OneEach, one_each}
 use Rattle.batch.proofs.Carrying.{state_after_bytes, state_after_nothing, verdict_due, state_after_more, answers_added, lines_more}
 
 -- none of 5 to 7 is the number of an accepted call, and one of them that of a refused one
@@ -101,7 +104,9 @@ module _ (t : List ℕ) (c : Call) (d : FeedEffect (state_after_bytes t) c.piece
   took : (n : ℕ) → c.returned.verdict ≡ Ok n → Step t c
   took n is =
       let state : c.returned.state ≡ state_after_piece (state_after_bytes t) c.piece = rw is at its_state in
-      let out : c.out_after ≡ answer_lines (adds t c.piece) ++ drop n c.out = rw (is, answers_added) at d.output in
+      let written : c.out_after ≡ out_after (Ok n) (state_after_bytes t) c.piece c.out = rw is at d.output in
+      let out : c.out_after ≡ answer_lines (adds t c.piece) ++ drop n c.out =
+          written ∙ ap (λ (front : List ℕ). front ++ drop n c.out) (answers_added t c.piece) in
       let size : length (answer_lines (adds t c.piece)) ≡ n = sym (due_says t c.piece (length c.out) n (sym is_due ∙ is)) in
       let front : take n c.out_after ≡ answer_lines (adds t c.piece) = rw out (take_at _ _ n size) in
       record {
@@ -181,14 +186,25 @@ each_line : (l : List ℕ) (d x y : ℕ) → read_line l ≡ Ok (pair d x y) →
 unfolding reply_to reply_to_read
 each_line l d x y e = record { line_is = (both_ways.nothing_else l d x y e).0; reply_is = ap reply_to_read e; claims = claims x y }
 
+-- the n-th answer line is the answer to the n-th line
+nth_reply : (ls : List (List ℕ)) → OneEach (replies ls) → (n : ℕ) → n < length ls
+    → get_or (lines (answer_lines ls)) n [] ++ line_feed ∷ [] ≡ answer_line (reply_to (get_or ls n []))
+unfolding replies answer_lines
+nth_reply ls each n h =
+    each.nth n (reply_to []) (rw length-map h) ∙ ap answer_line (get_or-map reply_to ls n [] (reply_to []) h)
+
 -- demand 3
 pub every_series : EverySeries FeedEffect
 unfolding EverySeries state_after_bytes lines lines_from answer_lines replies joined_answers
 every_series cs ds =
     let f = from_fresh cs ds in
     let state = fresh_state cs ds in
+    let each = one_each (replies (lines (accepted cs))) in
     record {
       bytes_written = f.bytes;
+      one_for_each = rw f.bytes (each.as_many ∙ length-map (lines (accepted cs)) reply_to);
+      nth_answered = λ n h. rw f.bytes (nth_reply (lines (accepted cs)) each n h);
+      none_unfinished = rw f.bytes each.none_left;
       lines_counted = rw state;
       tallies_counted = rw state;
       tail_held = rw state;

@@ -2,17 +2,18 @@
 -- stand above what says them.
 use Rattle.std.specs.Prelude.{ℕ, ◌+◌, ◌≡◌, Result, Ok, Err, Bool, true, false, not, cond, List, [], ◌∷◌, ◌++◌, map}
 use Rattle.std.specs.Prelude.{eqb, ltb, length, take, drop}
+use Rattle.std.specs.Prelude.{get_or, ◌<◌}
 use Rattle.std.specs.Float.{binary32}
 use Rattle.std.specs.Float.Ieee.{of_bits}
 use Rattle.compound.specs.Route.{compound}
 use Rattle.answers.specs.Claims.{Claims}
 use Rattle.lines.specs.Format.{pair, line_of, read_line}
-use Rattle.replies.specs.Reply.{answer, reply_to}
+use Rattle.replies.specs.Reply.{answer, reply_to, answer_line}
 use Rattle.state.specs.declared.State.{State}
 use Rattle.batch.specs.declared.Fed.{Fed}
 use Rattle.batch.specs.declared.Refused.{Refused}
 use Rattle.batch.specs.declared.Refused.TheVariants.{Broken, TooManyLines, NoRoom}
-use Rattle.scan.specs.Complete.{lines, rest, line_feeds}
+use Rattle.scan.specs.Complete.{line_feed, lines, rest, line_feeds}
 use Rattle.piece.specs.Tally.{tallies_of}
 use Rattle.state.specs.Holding.{tail_of, fresh}
 use Rattle.batch.specs.Feed.{verdict, feed_number, FeedEffect}
@@ -130,6 +131,15 @@ pub record SeriesResult (cs : List Call) : Type 0 where
   -- "After it the bytes written, joined, are the answer lines of the complete lines in the joined accepted pieces,
   -- one for each, in order."
   pub bytes_written : wrote_all cs ≡ answer_lines (lines (accepted cs))
+  -- "Each complete line yields just one answer line, in order", in bytes: there are as many line feeds in what was
+  -- written as complete lines, the n-th line of it, with its feed, is the answer to the n-th of these, and nothing
+  -- follows the last.
+  pub one_for_each : line_feeds (wrote_all cs) ≡ length (lines (accepted cs))
+  pub nth_answered :
+      (n : ℕ) → n < length (lines (accepted cs))
+      → get_or (lines (wrote_all cs)) n [] ++ line_feed ∷ []
+      ≡ answer_line (reply_to (get_or (lines (accepted cs)) n []))
+  pub none_unfinished : rest (wrote_all cs) ≡ []
   -- "The state's count of lines is the number of those lines,"
   pub lines_counted : (state_of fresh cs).lines ≡ length (lines (accepted cs))
   -- "and the six tallies count them by route or as bad."

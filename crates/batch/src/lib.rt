@@ -9,6 +9,7 @@ mod pieces;
 ghost use Rattle.std.specs.Prelude.{◌≡◌, MatchResult};
 ghost use Rattle.batch.specs.Feed.{FeedEffect, feed_number, closed, close_number};
 ghost use Rattle.batch.specs.Series.{EverySeries, Possible};
+ghost use Rattle.batch.specs.Example.{Example, EachAnswer};
 
 pub use piece::{ANSWER_GROWTH, MOST_LINES};
 use piece::{Taken, is_short, take_piece, too_many};
@@ -115,4 +116,11 @@ pub fn close_number(closed: Result<(), NotClosed>) -> u32
 pub fn every_series()
     ensures always { EverySeries FeedEffect }
     ensures possible { Possible FeedEffect }
+{}
+
+// The example of document 01, all three lines; and that feed and close can come to each of their answers.
+// There is nothing to run: both are computed from the definitions.
+pub fn examples()
+    ensures example { Example }
+    ensures each_answer { EachAnswer }
 {}
