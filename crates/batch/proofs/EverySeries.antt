@@ -106,7 +106,7 @@ module _ (t : List ℕ) (c : Call) (d : FeedEffect (state_after_bytes t) c.piece
       let state : c.returned.state ≡ state_after_piece (state_after_bytes t) c.piece = rw is at its_state in
       let written : c.out_after ≡ out_after (Ok n) (state_after_bytes t) c.piece c.out = rw is at d.output in
       let out : c.out_after ≡ answer_lines (adds t c.piece) ++ drop n c.out =
-          written ∙ ap (λ (front : List ℕ). front ++ drop n c.out) (answers_added t c.piece) in
+      written ∙ ap (λ (front : List ℕ). front ++ drop n c.out) (answers_added t c.piece) in
       let size : length (answer_lines (adds t c.piece)) ≡ n = sym (due_says t c.piece (length c.out) n (sym is_due ∙ is)) in
       let front : take n c.out_after ≡ answer_lines (adds t c.piece) = rw out (take_at _ _ n size) in
       record {

@@ -16,10 +16,9 @@ use native.Mathlib.Nat.{mul-one}
 use Rattle.std.proofs.lemmas.Grind.{common_steps}
 use Rattle.std.proofs.lemmas.List.Folds.{sum_by-replicate}
 use Rattle.scan.specs.Complete.{line_feed, lines_from, rest_from, lines, line_feeds}
-use Rattle.state.specs.Tally.{plus, total}
-use Rattle.state.specs.Holding.{fresh, tail_of, held_line, zeros, broken, unused}
-use Rattle.piece.specs.Counts.{tallies_of, tally_of, tally_of_route}
-use Rattle.piece.specs.Piece.{replies, joined, answer_lines, added, state_after_piece, most_lines}
+use Rattle.state.specs.Holding.{fresh, tail_of, held_line, zeros, total, broken, unused}
+use Rattle.piece.specs.Tally.{tallies_with}
+use Rattle.piece.specs.Piece.{replies, joined_answers, answer_lines, added, state_after_piece, most_lines}
 use Rattle.totals.specs.Totals.{totals}
 use Rattle.batch.specs.declared.Refused.TheVariants.{TooManyLines}
 use Rattle.batch.specs.Feed.{verdict, closed}
@@ -52,11 +51,11 @@ two_replies = rw (two_lines, first_is, second_is)
 
 -- the state after them
 state_is : state_after_piece fresh example_input ≡ record { tail = record { bytes = zeros; count = 0 }; lines = 2; tallies = record { rule = 0; whole = 1; edge = 0; fast = 0; slow = 0; bad = 1 } }
-unfolding state_after_piece tail_of held_line rest_from plus added line_feeds lines tallies_of tally_of tally_of_route
+unfolding state_after_piece tail_of held_line rest_from added line_feeds lines tallies_with
 state_is = rw two_replies refl
 
 pub example : Example
-unfolding answer_lines joined answer_line ending answer_pattern word decimal hex digits places glyph totals of_bits to_bits is_nan broken total unused line_feeds
+unfolding answer_lines joined_answers answer_line ending answer_pattern word decimal hex digits places glyph totals of_bits to_bits is_nan broken total unused line_feeds
 example = rw (two_replies, state_is) refl
 
 -- as many line feeds as are asked for
@@ -81,7 +80,7 @@ unfolding added held_line lines
 added_is = refl
 
 length_is : length (answer_lines (added fresh example_input)) ≡ 32
-unfolding answer_lines joined answer_line ending answer_pattern word decimal hex digits places glyph of_bits to_bits is_nan
+unfolding answer_lines joined_answers answer_line ending answer_pattern word decimal hex digits places glyph of_bits to_bits is_nan
 length_is = rw (added_is, two_replies) refl
 
 closed_whole : closed (state_after_piece fresh example_input) ≡ Ok tt
@@ -89,7 +88,7 @@ unfolding broken line_feeds unused total
 closed_whole = rw state_is refl
 
 pub each_answer : EachAnswer
-unfolding verdict broken line_feeds unused total state_after_piece tail_of held_line rest_from added lines_from tallies_of replies plus
+unfolding verdict broken line_feeds unused total state_after_piece tail_of held_line rest_from added lines_from tallies_with replies
 each_answer = record {
   accepted = rw length_is refl;
   seven = rw length_is refl;

@@ -2,8 +2,7 @@
 use Rattle.std.specs.Prelude.{ℕ, ◌+◌, ◌≡◌, Ok, Err, List, ◌++◌, replicate, codes}
 use Rattle.state.specs.declared.State.{State}
 use Rattle.scan.specs.Complete.{line_feed, lines}
-use Rattle.state.specs.Tally.{zero_tallies}
-use Rattle.state.specs.Holding.{zeros, fresh}
+use Rattle.state.specs.Holding.{zeros, zero_tallies, fresh}
 use Rattle.piece.specs.Piece.{most_lines, answer_lines, state_after_piece}
 use Rattle.totals.specs.Totals.{totals, end_line}
 use Rattle.batch.specs.declared.Refused.TheVariants.{Broken, TooManyLines, NoRoom}

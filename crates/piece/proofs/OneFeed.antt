@@ -11,7 +11,7 @@ use Rattle.text.specs.Digits.{glyph, digits, places, decimal, hex}
 use Rattle.lines.specs.Format.{id_key}
 use Rattle.replies.specs.Reply.{Reply, answer, bad, ending, answer_pattern, answer_line}
 use Rattle.scan.specs.Complete.{line_feed, lines_from, rest_from, lines, rest, line_feeds}
-use Rattle.piece.specs.Piece.{joined}
+use Rattle.piece.specs.Piece.{joined_answers}
 use Rattle.scan.proofs.Cutting.{line_feeds_append, line_feeds_first, line_feeds_nil}
 
 -- no digit is a line feed
@@ -74,27 +74,27 @@ rest_after (b ∷ text) so l e = grind (arith, nat_tests, line_feeds_first, rest
 
 -- the lines of answer lines joined are as many, the n-th is the n-th answer line, and nothing is left unfinished
 pub record OneEach (rs : List Reply) : Type 0 where
-  pub as_many : line_feeds (joined rs) ≡ length rs
-  pub nth : (n : ℕ) (r : Reply) → n < length rs → get_or (lines (joined rs)) n [] ++ line_feed ∷ [] ≡ answer_line (get_or rs n r)
-  pub none_left : rest (joined rs) ≡ []
+  pub as_many : line_feeds (joined_answers rs) ≡ length rs
+  pub nth : (n : ℕ) (r : Reply) → n < length rs → get_or (lines (joined_answers rs)) n [] ++ line_feed ∷ [] ≡ answer_line (get_or rs n r)
+  pub none_left : rest (joined_answers rs) ≡ []
 
 -- the n-th, with one more in front
 nth_more : (r : Reply) (rs : List Reply) → OneEach rs → (n : ℕ) (d : Reply) → n < suc (length rs)
-    → get_or ((one_feed r).text ∷ lines (joined rs)) n [] ++ line_feed ∷ [] ≡ answer_line (get_or (r ∷ rs) n d)
+    → get_or ((one_feed r).text ∷ lines (joined_answers rs)) n [] ++ line_feed ∷ [] ≡ answer_line (get_or (r ∷ rs) n d)
 nth_more r rs o zero d h = sym (one_feed r).line_is
 nth_more r rs o (suc n) d h = o.nth n d (omega (arith, h))
 
 pub one_each : (rs : List Reply) → OneEach rs
-unfolding joined lines rest lines_from rest_from line_feeds
+unfolding joined_answers lines rest lines_from rest_from line_feeds
 one_each [] = record { as_many = refl; nth = λ n r h. absurd (omega (arith, h)); none_left = refl }
 one_each (r ∷ rs) =
     let f = one_feed r in
     let others = one_each rs in
-    let joined_is : joined (r ∷ rs) ≡ f.text ++ line_feed ∷ joined rs = grind (arith, common_steps, append_assoc, f) in
-    let lines_are : lines (joined (r ∷ rs)) ≡ f.text ∷ lines (joined rs) =
-    rw joined_is (lines_after f.text [] (joined rs) f.no_feed) in
+    let joined_is : joined_answers (r ∷ rs) ≡ f.text ++ line_feed ∷ joined_answers rs = grind (arith, common_steps, append_assoc, f) in
+    let lines_are : lines (joined_answers (r ∷ rs)) ≡ f.text ∷ lines (joined_answers rs) =
+    rw joined_is (lines_after f.text [] (joined_answers rs) f.no_feed) in
     record {
       as_many = rw joined_is (grind (arith, nat_tests, line_feeds_append, line_feeds_first, f, others));
       nth = λ n d h. rw lines_are (nth_more r rs others n d h);
-      none_left = rw joined_is (rest_after f.text [] (joined rs) f.no_feed ∙ others.none_left);
+      none_left = rw joined_is (rest_after f.text [] (joined_answers rs) f.no_feed ∙ others.none_left);
     }
