@@ -164,3 +164,8 @@ pub record WholeRun (left left' held held' : Option (List ℕ)) (r : Result End 
   pub ended : Result End Failure
   pub run : Run fresh state left left' held answers_held calls ended
   pub then : AfterRun ended state answers_held held' r
+
+-- the exit status: the end's number, 0 after a whole run, and 1 after a failure
+abbrev pub status : Result End Failure → ℕ
+status (Ok end) = end_number end
+status (Err failure) = 1

@@ -8,11 +8,12 @@ mod stream;
 mod task;
 mod tell;
 
-use run::{answer_all, print};
+use run::{answer_all, exit_code, print};
+use std::process::ExitCode;
 use task::{Task, asked};
 use tell::{HELP, USAGE, VERSION, tell};
 
-fn main(rt: HostRuntime) {
+fn main(rt: HostRuntime) -> ExitCode {
     let output = &mut rt.stdout();
     let ended = match asked(&rt) {
         Task::Answer => answer_all(&rt, &mut rt.stdin(), output),
@@ -20,10 +21,11 @@ fn main(rt: HostRuntime) {
         Task::Version => print(&rt, output, VERSION),
         Task::Usage => {
             let _ = rt.eprint(USAGE);
-            return;
+            return ExitCode::from(2);
         }
     };
     if let Err(failure) = ended {
         tell(&rt, failure);
     }
+    exit_code(ended)
 }

@@ -5,15 +5,17 @@
 // code over standard input and output.
 ghost use Rattle.std.specs.Prelude.{◌≡◌, false, ℕ, ◌≤◌, List, Option, Result, take};
 ghost use Rattle.std.specs.IoError.{error_kind};
+ghost use Rattle.std.specs.Process.{exit_status};
 ghost use Rattle.state.specs.Holding.{fresh, broken};
 ghost use Rattle.batch.specs.Feed.{closed, close_number};
 ghost use Rattle.batch.specs.Series.{Call};
-ghost use Rattle.fade.specs.Run.{end_number, if_written, PieceTurn, AfterRead, Turn, Run, LastLines, WholeRun};
+ghost use Rattle.fade.specs.Run.{end_number, if_written, PieceTurn, AfterRead, Turn, Run, LastLines, WholeRun, status};
 
 use batch::{MORE, NotClosed, OVER_LONG, Refused, State, TOTALS};
 use crate::stream::{read_some, write_whole};
 use std::io;
 use std::io::{Read, Write};
+use std::process::ExitCode;
 use std::rt::Clock;
 
 // The most bytes that are read at once.
@@ -194,6 +196,16 @@ pub(crate) fn answer_all<R: Read, W: Write>(
     let mut workspace = Workspace::new();
     let end = workspace.answer_input(rt, input, output)?;
     print_last_lines(rt, output, workspace.state, end)
+}
+
+// The exit status: the end's number, 0 after a whole run, and 1 after a failure.
+pub(crate) fn exit_code(ended: Result<End, Failure>) -> ExitCode
+    ensures { exit_status result ≡ status ended }
+{
+    match ended {
+        Ok(end) => ExitCode::from(end as u8),
+        Err(_) => ExitCode::FAILURE,
+    }
 }
 
 // Prints a text that is no answer.
