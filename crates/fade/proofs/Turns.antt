@@ -21,7 +21,7 @@ use Rattle.fade.specs.declared.run.Failure.{Failure}
 use Rattle.fade.specs.declared.run.Failure.TheVariants.{NotRead, NotWritten, OutOfReads}
 use Rattle.fade.specs.declared.run.Step.{Step}
 use Rattle.fade.specs.declared.run.Step.TheVariants.{Print, Stop}
-use Rattle.fade.specs.Run.{most_reads, end_number, Next, if_written, AfterFeed, PieceTurn, AfterRead, AllAccepted, IsRead, joined, AtInputEnd, AtRefusal, After, Written, Turns, Turn}
+use Rattle.fade.specs.Run.{most_piece, most_reads, end_number, Next, if_written, AfterFeed, PieceTurn, AfterRead, AllAccepted, IsRead, joined, AtInputEnd, AtRefusal, After, Written, Turns, Turn}
 
 abbrev Accepted : Call → Type 0
 Accepted c = is_accepted c ≡ true
@@ -78,7 +78,7 @@ module _ (s : State) (p out : List ℕ) (step : Step) (s' : State) (out' : List 
   none_printed end e = rw (refused end e).0 refl
 
 -- A turn that read `got`: by what comes after the read, it is a turn with no call or one.
-module _ (got : Result ℕ Error) (s : State) (l out : List ℕ) (s' : State) (out' : List ℕ) (r : Result Step Failure) (a : AfterRead got s l out r s' out') (left left' : Option (List ℕ)) (bound : ReadsAtMost got l) (bytes : ReadConsumes left left' got l) (some : 0 < length l) (most : length l ≤ 8192) where
+module _ (got : Result ℕ Error) (s : State) (l out : List ℕ) (s' : State) (out' : List ℕ) (r : Result Step Failure) (a : AfterRead got s l out r s' out') (left left' : Option (List ℕ)) (bound : ReadsAtMost got l) (bytes : ReadConsumes left left' got l) (some : 0 < length l) (most : length l ≤ most_piece) where
   -- the read failed
   pub turn_failed : (f : Failure) → r ≡ Err f → (held : Option (List ℕ)) → (cs : List Call) × Turn s s' left left' held held cs (Err f)
   unfolding Calls state_of joined wrote_all
