@@ -10,9 +10,15 @@ import math
 import struct
 import subprocess
 import sys
+from decimal import Decimal
+from fractions import Fraction
 from pathlib import Path
 
+from mpmath import mp, mpf
 from mpmath.libmp import from_man_exp, mpf_exp, mpf_log, mpf_mul
+
+sys.dont_write_bytecode = True  # so that what is built stays under target/
+import picture
 
 ORACLE = Path(__file__).resolve().parent.parent / "target/oracle/oracle"
 ROUTES = ["rule", "whole", "edge", "fast", "slow"]
@@ -364,7 +370,11 @@ RANGES = [
         "up to 31/2 of either sign, answers in reach",
         halves,
     ),
-    ("small x", f"|x| from 2^-30 to 2^-20, {REACH}", both(lambda r: wide(r, -30, -20), y_in_reach)),
+    (
+        "small loss",
+        f"x from -2^-20 to -2^-30, {REACH}",
+        both(lambda r: SIGN | r.size(2.0**-30, 2.0**-20), y_in_reach),
+    ),
     ("tiny x", f"|x| from 2^-52 to 2^-30, {REACH}", both(lambda r: wide(r, -52, -30), y_in_reach)),
     (
         "x that 1+x loses",
@@ -375,6 +385,21 @@ RANGES = [
         "better cells",
         "x from -1e-6 to -1e-16, y from 1 to 1e5",
         both(lambda r: SIGN | r.size(1e-16, 1e-6), lambda r, x: r.size(1, 1e5)),
+    ),
+    (
+        "small growth",
+        f"x from 2^-29 to 2^-20, {REACH}",
+        both(lambda r: r.size(2.0**-29, 2.0**-20), y_in_reach),
+    ),
+    (
+        "growth by 2^-30",
+        f"x from 2^-30 up to 2^-29, {REACH}",
+        both(lambda r: r.size(2.0**-30, (1 - 2.0**-24) * 2.0**-29), y_in_reach),
+    ),
+    (
+        "faint growth",
+        "x from 1e-16 to 1e-6, y from 1 to 1e5",
+        both(lambda r: r.size(1e-16, 1e-6), lambda r, x: r.size(1, 1e5)),
     ),
 ]
 
@@ -388,9 +413,8 @@ def one_binade(sign, k):
     return f"{sign}2^{k}", f"|x| from 2^{k} up to 2^{k + 1}, {how}", both(x, y_to_half)
 
 
-# x by its size: how the answers get worse as it shrinks, with more of them where that begins.
-BINADES = [*range(-20, -28, -2), *range(-28, -33, -1), *range(-34, -53, -2)]
-SIZES = [one_binade("-", k) for k in BINADES] + [one_binade("+", k) for k in range(-28, -33, -1)]
+# x by its size, every binade of it: how the answers get worse as it shrinks.
+SIZES = [one_binade(sign, k) for sign in "-+" for k in range(-2, -53, -1)]
 
 
 # ---- what is counted
@@ -441,9 +465,12 @@ class Tally:
         counts = [self.pairs, self.ties, self.by_one + self.by_more]
         counts += [self.by_one, self.by_more, self.infinite]
         sizes = " to ".join(f"{size:.2e}" for size in self.wrong)
+        return [*(f"{n:,}" for n in counts), sizes, self.worst_error(), self.at]
+
+    # The worst error, if one is known.
+    def worst_error(self):
         error = self.worst[0]
-        worst = "" if error < 0 else f"{error:.6f}" if error < 100 else f"{error:.3g}"
-        return [*(f"{n:,}" for n in counts), sizes, worst, self.at]
+        return "" if error < 0 else f"{error:.6f}" if error < 100 else f"{error:.3g}"
 
 
 COLUMNS = ["Pairs", "Ties", "Misrounded", "by one f32", "by more", "infinity wrong"]
@@ -645,9 +672,9 @@ def self_test():
 TABLES = [("ranges", "Range", 1, RANGES), ("sizes", "Size of x", 101, SIZES)]
 
 
-# Measures the given ranges and prints a table of them, and one with their routes.
+# Measures the given ranges, prints a table of them and one with their routes, and returns the totals.
 def report(run, first, ranges):
-    measured = []
+    measured, totals = [], []
     for stream, (name, words, draw) in ranges:
         print(f"{name}: {words}", flush=True)
         measured.append((name, run.measure(draw, stream)))
@@ -657,11 +684,34 @@ def report(run, first, ranges):
         for tally in tallies.values():
             total.plus(tally)
         row([name, *total.cells()])
+        totals.append((name, total))
     head(first, "Via")
     for name, tallies in measured:
         for via, tally in tallies.items():
             row([name, via, *tally.cells()])
     print()
+    return totals
+
+
+# What stands above the figures.
+FIGURES = """\
+# The worst error by the size of x, {count:,} pairs a line. `oracle/run accuracy picture` writes this file, and
+# `oracle/picture.py` draws docs/error.svg from it. A line -2^-31 has the x of that sign with a size from 2^-31 up to,
+# but without, 2^-30; y is such that from 1/2 to 1 is left, or that 1 grows to at most 2.
+#
+# x, misrounded answers, those by more than one f32, worst error in ulps, at x y: answer
+"""
+
+
+# Measures x by its size, writes the figures to docs/error.txt and draws them as docs/error.svg.
+def draw_picture(run):
+    _, first, stream, ranges = TABLES[1]
+    lines = FIGURES.format(count=run.count).splitlines()
+    for name, total in report(run, first, list(enumerate(ranges, stream))):
+        counts = f"{total.by_one + total.by_more:6} {total.by_more:6}"
+        lines.append(f"{name:7} {counts} {total.worst[0]:14.6f} {total.at}")
+    picture.TABLE.write_text("".join(f"{line}\n" for line in lines))
+    picture.main([])
 
 
 # Every x of fade's range with every whole y, 1 to 16 in size and of either sign: the pairs that the
@@ -681,26 +731,75 @@ def every(run):
     print()
 
 
-# Does what the arguments say: every, or [slow] [count] [range]...
+# The budget of one answer, from the decimals of a data sheet to the factor: each part is a difference of two values,
+# and together they are what the answer is off by. X and Y are the decimals, x and y the f32s that stand for them.
+# Returns false where there is none: x has to be above -1, and the answer normal.
+def budget(given_x, given_y):
+    mp.prec = 2 * BITS
+    x, y = pattern(float(given_x)), pattern(float(given_y))
+    if not (-1 < number(x) < math.inf and -126 < exponent(x, y) < 127):
+        print("accuracy: a budget takes an x above -1 and an answer from 2^-126 to 2^127", file=sys.stderr)
+        return False
+    X, Y = (mpf(n.numerator) / n.denominator for n in (Fraction(given_x), Fraction(given_y)))
+    (_, _, r, via), = ask([(x, y)])
+    right, value = exact(x, y)
+    ulp = mpf(2) ** last_place(*value)
+    given, with_x, with_both = (1 + X) ** Y, (1 + mpf(number(x))) ** Y, (1 + mpf(number(x))) ** mpf(number(y))
+    nearest_f32, answer = mpf(number(right)), mpf(number(r))
+    # At most, to first order: half a last place of x or y, times how fast the power moves with it. A y that is an f32
+    # is not rounded.
+    half_x, half_y = (mpf(2) ** last_place(*parts(p & ~SIGN)) / 2 for p in (x, y))
+    most_x = half_x * abs(Y) * given / (1 + X)
+    most_y = half_y * abs(mp.log(1 + X)) * given if mpf(number(y)) != Y else 0
+    print(f"X = {given_x}, Y = {given_y}: x={x:08x} y={y:08x} r={r:08x} via={via}, r is {number(r):.9g}")
+    print(f"exact (1 + X)^Y: {mp.nstr(given, 12)}; one ulp is 2^{last_place(*value)}, {float(ulp):.3g} of the capacity")
+    print()
+    row(["Part", "Formula", "Ulps", "Of the capacity", "At most, ulps"])
+    print("|" + "---|" * 5)
+    for name, formula, off, most in [
+        ("x rounded to f32", "(1+x)^Y - (1+X)^Y", with_x - given, most_x),
+        ("y rounded to f32", "(1+x)^y - (1+x)^Y", with_both - with_x, most_y),
+        ("the function", "r - nearest f32", answer - nearest_f32, None),
+        ("the answer's rounding", "nearest f32 - (1+x)^y", nearest_f32 - with_both, ulp / 2),
+        ("the sum", "r - (1+X)^Y", answer - given, most_x + most_y + ulp / 2),
+    ]:
+        cells = [f"{float(off / ulp):+.4f}", f"{float(off):+.2e}"] if off else ["0", "0"]
+        row([name, formula, *cells, "" if most is None else f"{float(most / ulp):.4f}" if most else "0"])
+    half = mpf(10) ** Decimal(given_x).as_tuple().exponent / 2
+    low, high = ((1 + X + d) ** Y for d in (-half, half))
+    print()
+    print(f"X is known to {float(half):g}: from {float(low):.4f} to {float(high):.4f} is left")
+    return True
+
+
+# Does what the arguments say: every, picture, budget X Y, or [slow] [count] [range]...
 def main(words):
+    if words[:1] == ["budget"] and len(words) == 3:
+        return 0 if budget(*words[1:]) else 2
     if words == ["every"]:
         self_test()
         run = Run(0, False)
         every(run)
+        return 0 if run.report_bound() else 1
+    if words == ["picture"]:
+        self_test()
+        run = Run(COUNT, False)
+        draw_picture(run)
         return 0 if run.report_bound() else 1
     slow = words[:1] == ["slow"]
     words = words[slow:]
     count = int(words.pop(0)) if words and words[0].isdigit() else COUNT
     known = [name for table, _, _, ranges in TABLES for name in (table, *(r[0] for r in ranges))]
     if not set(words) <= set(known):
-        print("accuracy: the arguments are every, or [slow] [count] [range]..., the ranges", file=sys.stderr)
+        usage = "every, picture, budget X Y, or [slow] [count] [range]...; the ranges are"
+        print(f"accuracy: the arguments are {usage}", file=sys.stderr)
         print("  " + ", ".join(known), file=sys.stderr)
         return 2
     print(f"seed: {SEED:016x}, {count:,} pairs a range{', only slow ones count' if slow else ''}")
     self_test()
     run = Run(count, slow)
     for table, first, stream, ranges in TABLES:
-        wanted = set(words or known)
+        wanted = set(words or ["ranges"])
         chosen = [r for r in enumerate(ranges, stream) if {table, r[1][0]} & wanted]
         if chosen:
             report(run, first, chosen)

@@ -9,11 +9,11 @@ use Rattle.floats.specs.Narrowing.{narrowed, nearest_f32}
 use Rattle.floats.specs.OnBits.{absolute, is_integer}
 use Rattle.special.specs.Special.{one, is_zero, is_special, is_rule, from_minus_one_to_zero, special_table, first_that_fits, special}
 use Rattle.whole.specs.Whole as Whole
-use Rattle.whole.specs.Whole.{is_whole, is_tiny, squarings, power}
+use Rattle.whole.specs.Whole.{is_whole, is_tiny, squarings, whole_power}
 use Rattle.compound.specs.Route.{compound}
 use Rattle.answers.specs.Claims.{answer, NanExactly, SignClear}
 use Rattle.answers.specs.Exact as Exact
-use Rattle.answers.specs.Exact.{Fraction, one_plus, exact}
+use Rattle.answers.specs.Exact.{Fraction, exact_base, exact}
 
 abbrev f32 : ℕ → Float
 f32 n = of_bits binary32 n
@@ -25,7 +25,7 @@ at_minus_one = refl
 
 -- (1 + 2^63)^-16 is below every f32 but 0: the answer is +0
 pub underflow : SignClear (f32 0x5f000000) (f32 0xc1800000)
-unfolding SignClear of_bits to_bits to_unsigned add mul div lt le eq is_nan narrowed absolute is_integer is_zero is_special is_rule is_whole is_tiny squarings power Whole.whole compound
+unfolding SignClear of_bits to_bits to_unsigned add mul div lt le eq is_nan narrowed absolute is_integer is_zero is_special is_rule is_whole is_tiny squarings whole_power Whole.whole compound
 underflow number = lit< tt
 
 -- whether r is at least the nearest f32 to E × (1 - 2^-47)
@@ -34,7 +34,7 @@ at_least E r = le (nearest_f32 (E.top * (2 ^ 47 - 1)) (E.bottom * 2 ^ 47)) r
 
 -- (1 + 1/2)^2 is not 1
 pub not_always_one : at_least (exact (f32 0x3f000000) (f32 0x40000000)) one ≡ false
-unfolding exact Exact.power one_plus of_bits nearest_f32 round le
+unfolding exact Exact.raised exact_base of_bits nearest_f32 round le
 not_always_one = refl
 
 -- (2 + 2^-23)^2: in f32, 1 + x is 2 and its square 4, and the bound asks for the f32 after 4
@@ -42,7 +42,7 @@ abbrev square : Float → Float
 square x = mul binary32 (add binary32 one x) (add binary32 one x)
 
 pub not_in_f32 : at_least (exact (f32 0x3f800001) (f32 0x40000000)) (square (f32 0x3f800001)) ≡ false
-unfolding exact Exact.power one_plus of_bits nearest_f32 round le add mul
+unfolding exact Exact.raised exact_base of_bits nearest_f32 round le add mul
 not_in_f32 = refl
 
 -- ---- the two ends of the bound
@@ -52,14 +52,14 @@ ends E = (nearest_f32 (E.top * (2 ^ 47 - 1)) (E.bottom * 2 ^ 47), nearest_f32 (E
 -- 2^-16, an overflow and an underflow: both ends are the answer
 pub both_ends : (ends (exact (f32 0x3f800000) (f32 0xc1800000)) ≡ (f32 0x37800000, f32 0x37800000)) × (ends (exact (f32 0x5f000000) (f32 0x41800000)) ≡ (f32 0x7f800000, f32 0x7f800000))
     × (ends (exact (f32 0x5f000000) (f32 0xc1800000)) ≡ (f32 0, f32 0))
-unfolding exact Exact.power Exact.inverse one_plus of_bits nearest_f32 round
+unfolding exact Exact.raised Exact.raised_inverse exact_base of_bits nearest_f32 round
 both_ends = (refl, refl, refl)
 
 -- ---- 2^-54 is not only past the proof, but false: this answer is above the nearest f32 to E × (1 + 2^-54)
 pub answer_of_8 : answer (f32 0x3c55563d) (f32 0x41000000) ≡ f32 0x3f8df512
-unfolding of_bits to_unsigned add mul div lt le eq is_nan narrowed absolute is_integer is_zero is_special is_rule is_whole is_tiny squarings power Whole.whole compound
+unfolding of_bits to_unsigned add mul div lt le eq is_nan narrowed absolute is_integer is_zero is_special is_rule is_whole is_tiny squarings whole_power Whole.whole compound
 answer_of_8 = refl
 
 pub end_of_54 : nearest_f32 ((exact (f32 0x3c55563d) (f32 0x41000000)).top * (2 ^ 54 + 1)) ((exact (f32 0x3c55563d) (f32 0x41000000)).bottom * 2 ^ 54) ≡ f32 0x3f8df511
-unfolding exact Exact.power one_plus of_bits nearest_f32 round
+unfolding exact Exact.raised exact_base of_bits nearest_f32 round
 end_of_54 = refl

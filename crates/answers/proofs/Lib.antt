@@ -7,3 +7,4 @@ pub mod Reached
 pub mod EveryAnswer
 pub mod Examples
 pub mod SlowExamples
+pub mod Witnesses

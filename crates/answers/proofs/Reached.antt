@@ -1,16 +1,17 @@
 -- No pair comes to a NaN t, to an index that is cut or to a k that is cut: the three statements of specs/Reached.antt, for every pair of patterns. An answer of the route `slow` has
 -- failed the tests of the other four, which is what the theorems of Slow/SlowSign.antt ask. Assumes nothing.
 use mathlib.Core.Path.{◌≡◌, refl}
-use mathlib.Core.Bool.{Bool, true, false, not, cond}
-use Prim.Native.Nat.{ℕ, ◌-◌, ◌*◌, ◌%◌, ◌^◌, ◌≤◌, ◌<◌}
+use mathlib.Core.Bool.{Bool, true, false, cond}
+use Prim.Native.Nat.{ℕ, ◌-◌, ◌*◌, ◌≤◌, ◌<◌}
 use native.Mathlib.Nat.{le_trans, le_of_eq, mul-one}
 use native.Mathlib.Omega.{arith}
-use lib.Dec.{T, leb}
+use lib.Dec.{T}
 use lib.IntN.{pos}
-use lib.Ieee.{Float, nan, inf, fin, binary32, binary64, up, down, fits, lt, le, eq, of_bits, to_bits}
+use lib.Ieee.{Float, nan, inf, fin, binary32, up, down, fits, lt, le, eq, of_bits}
 use lib.Ieee.Bits.{of_bits-fits}
-use Rattle.std.proofs.lemmas.Bool.{not-false}
 use Rattle.filter.specs.Right.{Inside}
+use Rattle.filter.proofs.Settled.{t_number}
+use Rattle.fast_path.specs.Edges.{gives_zero, gives_infinity, gives_one}
 use Rattle.compound.specs.Answer.{Outcome}
 use Rattle.floats.specs.Operations.{◌⊗◌}
 use Rattle.floats.specs.OnBits.{absolute}
@@ -23,7 +24,7 @@ use Rattle.fast_path.specs.Fast.{compoundf_log2p1_fast, power_place, power_index
 use Rattle.compound.specs.Route.{from_logarithm, table_path, compound}
 use Rattle.special.proofs.Tabled.{tabled}
 use Rattle.answers.specs.Reached.{TNumber, slow_k, slow_rest, IndexInside, KInside, Reached}
-use Rattle.answers.proofs.Slow.SlowSign.{exponent_number, slow_index, slow_k_lem}
+use Rattle.answers.proofs.Slow.SlowSign.{slow_index, slow_k_lem}
 
 -- ---- the tests that an answer of the route `slow` has failed
 record Tests (x y : Float) : Type 0 where
@@ -41,10 +42,10 @@ tests x y e =
     let t = compoundf_log2p1_fast x ⊗ y in
     let r = past (is_rule x y) _ _ (λ h. cc) e in
     let w = past (Whole.is_whole x y) _ _ (λ h. cc) r.1 in
-    let a = past (le t (fin true 75 (pos 1))) _ _ (λ h. cc) w.1 in
-    let b = past (not (lt t (fin false 1 (pos 7)))) _ _ (λ h. cc) a.1 in
-    let c = past (leb (to_bits binary64 t * 2 % 2 ^ 64) 0x3e6715476ba97f14) _ _ (λ h. cc) b.1 in
-    record { off = r.0; inside = record { above = a.0; below = not-false _ b.0; apart = c.0 } }
+    let a = past (gives_zero t) _ _ (λ h. cc) w.1 in
+    let b = past (gives_infinity t) _ _ (λ h. cc) a.1 in
+    let c = past (gives_one t) _ _ (λ h. cc) b.1 in
+    record { off = r.0; inside = record { above = a.0; below = b.0; apart = c.0 } }
 
 -- ---- from the theorems to the statements
 not_past : (r : Float) → HasPower r → power_place r ≤ 0x10030
@@ -63,7 +64,7 @@ at_most_1000 (fin s m e) h = at_most (m * up e * 1) (1000 * down e) (le_trans (l
 module _ (x y : Float) (x_fits : T (fits binary32 x)) (y_fits : T (fits binary32 y)) where
   t_is : TNumber x y
   unfolding TNumber
-  t_is e = exponent_number x y (tabled x y x_fits y_fits e)
+  t_is e = t_number x y (tabled x y x_fits y_fits e)
 
   index_is : IndexInside x y
   unfolding IndexInside

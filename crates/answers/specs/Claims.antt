@@ -17,9 +17,13 @@ answer x y = (compound x y).value
 unfoldable pub NanExactly : Float → Float → Type 0
 NanExactly x y = is_nan (answer x y) ≡ (is_nan x || is_nan y || lt x minus_one)
 
--- "any other answer has a clear sign bit": the highest of 32
+-- "any other answer"
+abbrev pub AnyOther : Float → Float → Type 0
+AnyOther x y = T (not (is_nan (answer x y)))
+
+-- it "has a clear sign bit": the highest of 32
 unfoldable pub SignClear : Float → Float → Type 0
-SignClear x y = T (not (is_nan (answer x y))) → to_bits binary32 (answer x y) < 2 ^ 31
+SignClear x y = AnyOther x y → to_bits binary32 (answer x y) < 2 ^ 31
 
 -- "y is whole" and "1 <= |y| <= 16". `is_integer` holds of an infinity and a NaN too; the comparisons leave them out.
 unfoldable pub whole_to16 : Float → Bool
@@ -29,9 +33,16 @@ whole_to16 y = is_integer y && le one (absolute y) && le (absolute y) (fin false
 unfoldable pub x_in_range : Float → Bool
 x_in_range x = not (is_zero x) && lt minus_one x && lt x (fin false 1 (pos 64))
 
--- r is at least the nearest f32 to E × (1 - 2^-k) and at most the nearest f32 to E × (1 + 2^-k); demand 3 has k = 47
+-- the two ends of the bound: the nearest f32 to E × (1 - 2^-k), and to E × (1 + 2^-k)
+abbrev pub lower_end : ℕ → Fraction → Float
+lower_end k E = nearest_f32 (E.top * (2 ^ k - 1)) (E.bottom * 2 ^ k)
+
+abbrev pub upper_end : ℕ → Fraction → Float
+upper_end k E = nearest_f32 (E.top * (2 ^ k + 1)) (E.bottom * 2 ^ k)
+
+-- r is at least the one and at most the other; demand 3 has k = 47
 unfoldable pub Near : ℕ → Fraction → Float → Type 0
-Near k E r = T (le (nearest_f32 (E.top * (2 ^ k - 1)) (E.bottom * 2 ^ k)) r) × T (le r (nearest_f32 (E.top * (2 ^ k + 1)) (E.bottom * 2 ^ k)))
+Near k E r = T (le (lower_end k E) r) × T (le r (upper_end k E))
 
 -- "Where in such a line y is whole, 1 <= |y| <= 16, x nonzero and -1 < x < 2^64, the answer is at least the nearest
 -- f32 to E × (1 - 2^-47) and at most the nearest f32 to E × (1 + 2^-47), E being the exact (1+x)^y." Here it is said

@@ -15,10 +15,17 @@ use Rattle.fast_path.specs.Fast.{compoundf_log2p1_fast, power_place}
 use Rattle.slow_path.specs.Slow.{compoundf_log2p1_accurate}
 use Rattle.compound.specs.Route.{compound}
 
--- t = l×y of the table path is no NaN where the route is not `rule`. So `not (t < 128)` in compound/specs/Route.antt
--- is "t >= 128".
+-- x and y are not of the route `rule`
+abbrev pub PastRule : Float → Float → Type 0
+PastRule x y = is_rule x y ≡ false
+
+-- t = l×y of the table path is no NaN there. So each comparison of document 01 with t says what it says of numbers.
 unfoldable pub TNumber : Float → Float → Type 0
-TNumber x y = is_rule x y ≡ false → T (not (is_nan (compoundf_log2p1_fast x ⊗ y)))
+TNumber x y = PastRule x y → T (not (is_nan (compoundf_log2p1_fast x ⊗ y)))
+
+-- x and y are of the route `slow`
+abbrev pub OnSlow : Float → Float → Type 0
+OnSlow x y = (compound x y).via ≡ slow
 
 -- the exponent of the slow path, near y×log2(1 + x), and its k: what `exp2_accurate` in slow_path/specs/Slow.antt
 -- makes of it
@@ -35,11 +42,11 @@ slow_rest x y = (from_exact_add ((slow_exponent x y).hi ⊖ slow_k x y) (slow_ex
 -- On the route `slow` the index is from 0 to 32 before any cut: index 0 is place 0x10010 (`power_index` in
 -- fast_path/specs/Fast.antt).
 unfoldable pub IndexInside : Float → Float → Type 0
-IndexInside x y = (compound x y).via ≡ slow → (0x10010 ≤ power_place (slow_rest x y)) × (power_place (slow_rest x y) ≤ 0x10030)
+IndexInside x y = OnSlow x y → (0x10010 ≤ power_place (slow_rest x y)) × (power_place (slow_rest x y) ≤ 0x10030)
 
 -- On the route `slow` k is a number of at most 1000 in size. `le` is false at a NaN.
 unfoldable pub KInside : Float → Float → Type 0
-KInside x y = (compound x y).via ≡ slow → T (le (absolute (slow_k x y)) (fin false 125 (pos 3)))
+KInside x y = OnSlow x y → T (le (absolute (slow_k x y)) (fin false 125 (pos 3)))
 
 -- all three, for the f32s of two patterns
 pub record Reached (nx ny : ℕ) : Type 0 where

@@ -4,3 +4,4 @@ pub mod Carrying
 pub mod EverySeries
 pub mod InPieces
 pub mod Room
+pub mod Example

@@ -2,3 +2,4 @@
 -- of `batch` cite.
 pub mod Feed
 pub mod Series
+pub mod Example

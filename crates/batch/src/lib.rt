@@ -7,10 +7,11 @@
 mod pieces;
 
 ghost use Rattle.std.specs.Prelude.{◌≡◌, MatchResult};
-ghost use Rattle.batch.specs.Feed.{Did, number, closed, close_number};
-ghost use Rattle.batch.specs.Series.{Always, Possible};
+ghost use Rattle.batch.specs.Feed.{FeedEffect, feed_number, closed, close_number};
+ghost use Rattle.batch.specs.Series.{EverySeries, Possible};
+ghost use Rattle.batch.specs.Example.{Example, EachAnswer};
 
-pub use piece::{MORE, MOST_LINES};
+pub use piece::{ANSWER_GROWTH, MOST_LINES};
 use piece::{Taken, is_short, take_piece, too_many};
 use state::Reader;
 pub use state::{OVER_LONG, State, Tail, Tallies};
@@ -41,7 +42,7 @@ pub enum NotClosed {
 // Takes a piece of input, and writes the answer lines of the lines whose line feed lies in it to the
 // front of `out`. Where it refuses, state and output stay as they were.
 pub fn feed(state: State, piece: &[u8], out: &mut [u8]) -> Fed
-    ensures { Did state piece.now out.old result out.new }
+    ensures { FeedEffect state piece.now out.old result out.new }
 {
     match try_take(state, piece, out) {
         Ok(taken) => Fed {
@@ -60,8 +61,8 @@ pub fn feed(state: State, piece: &[u8], out: &mut [u8]) -> Fed
 #[tactic(auto, unfolding(crate::specs::Feed::verdict, piece::specs::Piece::added, text::specs::Bytes::put))]
 fn try_take(state: State, piece: &[u8], out: &mut [u8]) -> Result<Taken, Refused>
     ensures { MatchResult result
-        (λ taken. Did state piece.now out.old (record { state = taken.state; verdict = Ok taken.wrote }) out.new)
-        (λ refused. Did state piece.now out.old (record { state = state; verdict = Err refused }) out.new) }
+        (λ taken. FeedEffect state piece.now out.old (record { state = taken.state; verdict = Ok taken.wrote }) out.new)
+        (λ refused. FeedEffect state piece.now out.old (record { state = state; verdict = Err refused }) out.new) }
 {
     let reader = Reader::of(state).ok_or(Refused::Broken)?;
     if too_many(reader.lines(), piece) {
@@ -77,7 +78,7 @@ fn try_take(state: State, piece: &[u8], out: &mut [u8]) -> Result<Taken, Refused
 // `close_number` has the same body for another error: one function of both would need a trait with the
 // equation of each.
 pub fn feed_number(verdict: Result<usize, Refused>) -> u32
-    ensures { result ≡ number verdict }
+    ensures { result ≡ feed_number verdict }
 {
     match verdict {
         Ok(_) => 0,
@@ -113,6 +114,13 @@ pub fn close_number(closed: Result<(), NotClosed>) -> u32
 // Demand 3: what every list of feed calls from a fresh state comes to. There is nothing to run: the
 // contract is the theorem, and it speaks of calls that do what `feed` says of itself.
 pub fn every_series()
-    ensures always { Always Did }
-    ensures possible { Possible Did }
+    ensures always { EverySeries FeedEffect }
+    ensures possible { Possible FeedEffect }
+{}
+
+// The example of document 01, all three lines; and that feed and close can come to each of their answers.
+// There is nothing to run: both are computed from the definitions.
+pub fn examples()
+    ensures example { Example }
+    ensures each_answer { EachAnswer }
 {}

@@ -1,6 +1,6 @@
 -- Document 01, "One pair, one answer": "The answer is one of five routes, each carrying its f32, and no pair is
 -- refused".
-use Rattle.std.specs.Prelude.{ℕ, List, [], ◌∷◌, Float}
+use Rattle.std.specs.Prelude.{ℕ, List, Float, codes}
 use Rattle.compound.specs.declared.Answer.{Answer}
 use Rattle.compound.specs.declared.Answer.TheVariants.{Rule, Whole, Edge, Fast, Slow}
 use Rattle.compound.specs.declared.Route.{Route}
@@ -9,11 +9,11 @@ use Rattle.compound.specs.declared.Route.TheVariants.{Slow as slow}
 
 -- "W is `rule`, `whole`, `edge`, `fast` or `slow`": the bytes of a route's name
 unfoldable pub word : Route → List ℕ
-word rule = 114 ∷ 117 ∷ 108 ∷ 101 ∷ []
-word whole = 119 ∷ 104 ∷ 111 ∷ 108 ∷ 101 ∷ []
-word edge = 101 ∷ 100 ∷ 103 ∷ 101 ∷ []
-word fast = 102 ∷ 97 ∷ 115 ∷ 116 ∷ []
-word slow = 115 ∷ 108 ∷ 111 ∷ 119 ∷ []
+word rule = codes "rule"
+word whole = codes "whole"
+word edge = codes "edge"
+word fast = codes "fast"
+word slow = codes "slow"
 
 -- a route and the f32 that it carries
 pub record Outcome : Type 0 where

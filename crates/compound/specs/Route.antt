@@ -1,7 +1,5 @@
 -- Document 01, "Table path" and "One pair, one answer": the choice of the route, and the answer for every pair.
-use Rattle.std.specs.Prelude.{◌*◌, ◌%◌, ◌^◌, true, false, cond, not, leb, pos, Option, Some, None, Float}
-use Rattle.std.specs.Float.{fin, binary64}
-use Rattle.std.specs.Float.Ieee.{to_bits, lt, le}
+use Rattle.std.specs.Prelude.{cond, Option, Some, None, Float}
 use Rattle.floats.specs.Operations.{◌⊗◌}
 use Rattle.floats.specs.Narrowing.{narrowed}
 use Rattle.compound.specs.declared.Route.TheVariants.{Rule as rule, Whole as whole, Edge as edge, Fast as fast}
@@ -9,6 +7,7 @@ use Rattle.compound.specs.declared.Route.TheVariants.{Slow as slow}
 use Rattle.compound.specs.Answer.{Outcome}
 use Rattle.special.specs.Special as Special
 use Rattle.whole.specs.Whole as Whole
+use Rattle.fast_path.specs.Edges.{gives_zero, gives_infinity, gives_one}
 use Rattle.fast_path.specs.Fast.{compoundf_log2p1_fast, exp2_fast}
 use Rattle.slow_path.specs.Slow.{compoundf_accurate}
 
@@ -18,13 +17,12 @@ decided x y (Some v) = record { via = fast; value = narrowed v }
 decided x y None = record { via = slow; value = compoundf_accurate x y }
 
 -- "t <= -150 gives +0 and t >= 128 gives +infinity; a pattern of t, shifted left once, of at most 3e6715476ba97f14
--- gives 1. These are route `edge`." Here t >= 128 is `not (t < 128)`. The two differ for a NaN alone, and no pair has
--- one: that is a part of the contract of `every_answer` in the crate `answers` (`TNumber` in its specs/Reached.antt).
+-- gives 1. These are route `edge`."
 unfoldable pub from_logarithm : Float → Float → Float → Outcome
 from_logarithm x y t =
-    cond (le t (fin true 75 (pos 1))) (record { via = edge; value = Special.zero })
-    (cond (not (lt t (fin false 1 (pos 7)))) (record { via = edge; value = Special.+infinity })
-    (cond (leb (to_bits binary64 t * 2 % 2 ^ 64) 0x3e6715476ba97f14) (record { via = edge; value = Special.one }) (decided x y (exp2_fast t))))
+    cond (gives_zero t) (record { via = edge; value = Special.zero })
+    (cond (gives_infinity t) (record { via = edge; value = Special.+infinity })
+    (cond (gives_one t) (record { via = edge; value = Special.one }) (decided x y (exp2_fast t))))
 
 -- "With t = l×y"
 unfoldable pub table_path : Float → Float → Outcome

@@ -14,7 +14,7 @@ pub record Row : Type 0 where
   pub r : ℕ
   pub via : Route
 
-abbrev row : ℕ → ℕ → ℕ → Route → Row
+abbrev pub row : ℕ → ℕ → ℕ → Route → Row
 row x y r via = record { x = x; y = y; r = r; via = via }
 
 -- the starred rows, in the document's order

@@ -1,11 +1,12 @@
 // The choice of the route past the special operands and the whole exponents: by t = y * log2(1 + x).
 // A translation of the second half of `f_compoundf` in `compoundf.rs` of pxfm 0.1.30 (NOTICE).
-ghost use Rattle.std.specs.Prelude.{◌≡◌, true, false, T, pos, negsuc};
+ghost use Rattle.std.specs.Prelude.{◌≡◌, false, not, T, negsuc};
 ghost use Rattle.std.specs.Float.{binary32, fin};
-ghost use Rattle.std.specs.Float.Ieee.{le, lt, of_bits};
+ghost use Rattle.std.specs.Float.Ieee.{is_nan, le, lt, of_bits};
 ghost use Rattle.floats.specs.OnBits.{absolute};
 ghost use Rattle.special.specs.Operands.{Tabled};
 ghost use Rattle.compound.specs.Answer.{outcome};
+ghost use Rattle.fast_path.specs.Edges.{lower_edge, upper_edge};
 ghost use Rattle.fast_path.specs.Fast.{exp2_fast};
 ghost use Rattle.compound.specs.Route as spec;
 
@@ -21,8 +22,8 @@ use special::operands::Operands;
 // `exp2_fast`.
 #[tactic(auto, unfolding(crate::specs::Answer::outcome, crate::specs::Route::decided))]
 fn decided(pair: Operands, t: f64) -> Answer
-    requires t_above { T (lt (fin true 75 (pos 1)) t) }
-    requires t_below { T (lt t (fin false 1 (pos 7))) }
+    requires t_above { T (lt lower_edge t) }
+    requires t_below { T (lt t upper_edge) }
     ensures { outcome result ≡ spec.decided pair.x pair.y (exp2_fast t) }
 {
     match exp2_fast(t) {
@@ -31,25 +32,33 @@ fn decided(pair: Operands, t: f64) -> Answer
     }
 }
 
+// Up to LOWER_EDGE t gives +0, and from UPPER_EDGE on +infinity. A pattern of t, shifted left once, of at
+// most EDGE_OF_ONE gives 1: the source compares it with the constant as it stands, unshifted.
+const LOWER_EDGE: f64 = -150.0;
+
+const UPPER_EDGE: f64 = 128.0;
+
+const EDGE_OF_ONE: u64 = 0x3e67_1547_6ba9_7f14;
+
 // The answer from t, near y * log2(1 + x): the route `edge`, or what `decided` says.
 fn from_logarithm(pair: Operands, t: f64) -> Answer
+    requires { T (not (is_nan t)) }
     ensures { outcome result ≡ spec.from_logarithm pair.x pair.y t }
 {
-    if t <= -150.0 {
+    if t <= LOWER_EDGE {
         return Answer::Edge(0.0);
     }
-    if t < 128.0 {
-        // the source compares the shifted pattern with an unshifted constant
-        if f64::to_bits(t) % 0x8000_0000_0000_0000 * 2 <= 0x3e67_1547_6ba9_7f14 {
-            return Answer::Edge(1.0);
-        }
-        return decided(pair, t);
+    if t >= UPPER_EDGE {
+        return Answer::Edge(f32::INFINITY);
     }
-    Answer::Edge(f32::INFINITY)
+    if f64::to_bits(t) % 0x8000_0000_0000_0000 * 2 <= EDGE_OF_ONE {
+        return Answer::Edge(1.0);
+    }
+    decided(pair, t)
 }
 
-// The answer past the routes `rule` and `whole`, as the source has it.
-#[tactic(auto, unfolding(crate::specs::Route::table_path))]
+// The answer past the routes `rule` and `whole`, as the source has it. Its t is no NaN, for any pair.
+#[tactic(auto, using(filter::proofs::Settled::t_number), unfolding(crate::specs::Route::table_path))]
 fn as_written(pair: Operands) -> Answer
     ensures { outcome result ≡ spec.table_path pair.x pair.y }
 {

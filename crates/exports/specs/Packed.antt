@@ -8,13 +8,13 @@ use Rattle.compound.specs.declared.Route.TheVariants.{Slow as slow}
 use Rattle.compound.specs.Answer.{Outcome}
 
 -- the routes by number, in the order in which document 01 names them; the numbers are ours and not the document's
-unfoldable pub number : Route → ℕ
-number rule = 0
-number whole = 1
-number edge = 2
-number fast = 3
-number slow = 4
+unfoldable pub route_number : Route → ℕ
+route_number rule = 0
+route_number whole = 1
+route_number edge = 2
+route_number fast = 3
+route_number slow = 4
 
 -- the route's number in the upper half, and the pattern of the value in the lower
 unfoldable pub packed : Outcome → ℕ
-packed o = number o.via * 2 ^ 32 + to_bits binary32 o.value
+packed o = route_number o.via * 2 ^ 32 + to_bits binary32 o.value

@@ -12,7 +12,7 @@ use Rattle.state.specs.declared.State.{State}
 use Rattle.state.specs.Holding.{broken}
 use Rattle.batch.specs.declared.Refused.{Refused as Cause}
 use Rattle.batch.specs.declared.Refused.TheVariants.{Broken, TooManyLines, NoRoom}
-use Rattle.batch.specs.Feed.{verdict, fed, out_after, Did, closed, close_number}
+use Rattle.batch.specs.Feed.{verdict, fed, out_after, FeedEffect, closed, close_number}
 use Rattle.batch.specs.Series.{Call, Calls, state_of, is_accepted, wrote, wrote_all}
 use Rattle.batch.proofs.Room.{wrote_within}
 use Rattle.fade.specs.declared.run.End.{End}
@@ -21,7 +21,7 @@ use Rattle.fade.specs.declared.run.Failure.{Failure}
 use Rattle.fade.specs.declared.run.Failure.TheVariants.{NotRead, NotWritten, OutOfReads}
 use Rattle.fade.specs.declared.run.Step.{Step}
 use Rattle.fade.specs.declared.run.Step.TheVariants.{Print, Stop}
-use Rattle.fade.specs.Run.{most_piece, most_reads, end_number, Next, if_written, AfterFeed, PieceTurn, AfterRead, AllAccepted, IsRead, joined, AtInputEnd, AtRefusal, After, Written, Turns, Turn}
+use Rattle.fade.specs.Run.{most_piece, most_reads, end_number, Next, if_written, AfterFeed, PieceTurn, AfterRead, AllAccepted, IsRead, pieces_of, AtInputEnd, AtRefusal, After, Written, Turns, Turn}
 
 abbrev Accepted : Call → Type 0
 Accepted c = is_accepted c ≡ true
@@ -34,7 +34,7 @@ module _ (s : State) (p out : List ℕ) (step : Step) (s' : State) (out' : List 
   abbrev call : Call
   call = record { piece = p; out = out; returned = fed s p (length out); out_after = out' }
 
-  call_made : Calls Did s (call ∷ [])
+  call_made : Calls FeedEffect s (call ∷ [])
   unfolding Calls
   call_made = (record { result = refl; output = a.output }, tt)
 
@@ -42,8 +42,8 @@ module _ (s : State) (p out : List ℕ) (step : Step) (s' : State) (out' : List 
   unfolding state_of
   call_state = a.state_is
 
-  call_read : (left left' : Option (List ℕ)) → Consumes left left' p → Consumes left left' (joined (call ∷ []))
-  unfolding joined
+  call_read : (left left' : Option (List ℕ)) → Consumes left left' p → Consumes left left' (pieces_of (call ∷ []))
+  unfolding pieces_of
   call_read left left' r = rw append-nil r
 
   -- where a step prints, its feed was accepted and wrote that many bytes
@@ -81,7 +81,7 @@ module _ (s : State) (p out : List ℕ) (step : Step) (s' : State) (out' : List 
 module _ (got : Result ℕ Error) (s : State) (l out : List ℕ) (s' : State) (out' : List ℕ) (r : Result Step Failure) (a : AfterRead got s l out r s' out') (left left' : Option (List ℕ)) (bound : ReadsAtMost got l) (bytes : ReadConsumes left left' got l) (some : 0 < length l) (most : length l ≤ most_piece) where
   -- the read failed
   pub turn_failed : (f : Failure) → r ≡ Err f → (held : Option (List ℕ)) → (cs : List Call) × Turn s s' left left' held held cs (Err f)
-  unfolding Calls state_of joined wrote_all
+  unfolding Calls state_of pieces_of wrote_all
   turn_failed = by got a bytes
     where
       by : (got : Result ℕ Error) → AfterRead got s l out r s' out' → ReadConsumes left left' got l → (f : Failure) → r ≡ Err f → (held : Option (List ℕ)) → (cs : List Call) × Turn s s' left left' held held cs (Err f)
@@ -104,7 +104,7 @@ module _ (got : Result ℕ Error) (s : State) (l out : List ℕ) (s' : State) (o
 
   -- the reading ended
   pub turn_ended : (end : End) → r ≡ Ok (Stop end) → (held : Option (List ℕ)) → (cs : List Call) × Turn s s' left left' held held cs (Ok (Some end))
-  unfolding Calls state_of joined wrote_all
+  unfolding Calls state_of pieces_of wrote_all
   turn_ended = by got a bound bytes
     where
       by : (got : Result ℕ Error) → AfterRead got s l out r s' out' → ReadsAtMost got l → ReadConsumes left left' got l → (end : End) → r ≡ Ok (Stop end) → (held : Option (List ℕ)) → (cs : List Call) × Turn s s' left left' held held cs (Ok (Some end))
@@ -181,7 +181,7 @@ module _ (got : Result ℕ Error) (s : State) (l out : List ℕ) (s' : State) (o
           ] whole
 
 -- turns one after another
-calls_append : (s : State) (cs ds : List Call) → Calls Did s cs → Calls Did (state_of s cs) ds → Calls Did s (cs ++ ds)
+calls_append : (s : State) (cs ds : List Call) → Calls FeedEffect s cs → Calls FeedEffect (state_of s cs) ds → Calls FeedEffect s (cs ++ ds)
 unfolding Calls state_of
 calls_append s [] ds m n = n
 calls_append s (c ∷ cs) ds (d, m) n = (d, calls_append c.returned.state cs ds m n)
@@ -191,10 +191,10 @@ unfolding state_of
 state_append s [] ds = refl
 state_append s (c ∷ cs) ds = state_append c.returned.state cs ds
 
-joined_append : (cs ds : List Call) → joined (cs ++ ds) ≡ joined cs ++ joined ds
-unfolding joined
-joined_append [] ds = refl
-joined_append (c ∷ cs) ds = rw (joined_append cs ds, append_assoc)
+pieces_append : (cs ds : List Call) → pieces_of (cs ++ ds) ≡ pieces_of cs ++ pieces_of ds
+unfolding pieces_of
+pieces_append [] ds = refl
+pieces_append (c ∷ cs) ds = rw (pieces_append cs ds, append_assoc)
 
 wrote_append : (cs ds : List Call) → wrote_all (cs ++ ds) ≡ wrote_all cs ++ wrote_all ds
 unfolding wrote_all
@@ -231,14 +231,14 @@ turns_append next s s' s'' left left' left'' held held' held'' cs ds t few u = r
   made = calls_append s cs ds t.made (rw t.state_is at u.made);
   state_is = rw (state_append s cs ds, ← t.state_is) u.state_is;
   pieces = All-append IsRead cs ds t.pieces u.pieces;
-  read = rw (joined_append cs ds) (Consumes-trans left left' left'' (joined cs) (joined ds) t.read u.read);
+  read = rw (pieces_append cs ds) (Consumes-trans left left' left'' (pieces_of cs) (pieces_of ds) t.read u.read);
   written = rw (wrote_append cs ds) (written_append next held held' held'' (wrote_all cs) (wrote_all ds) t.written u.written);
   after = after_append next left'' s cs ds t.after few (rw t.state_is at u.after);
 }
 
 -- no turn
 pub no_turns : (s : State) (left held : Option (List ℕ)) → Turns s s left left held held [] (Ok None)
-unfolding Calls state_of joined wrote_all
+unfolding Calls state_of pieces_of wrote_all
 no_turns s left held = record { made = tt; state_is = refl; pieces = All-nil IsRead; read = Consumes-nil left; written = Appends-nil held; after = All-nil Accepted }
 
 -- as many turns as can be counted

@@ -7,7 +7,7 @@ use Rattle.state.specs.declared.State.{State}
 use Rattle.batch.specs.declared.Refused.{Refused as Cause}
 use Rattle.batch.specs.declared.Refused.TheVariants.{Broken, TooManyLines, NoRoom}
 use Rattle.state.specs.Holding.{fresh}
-use Rattle.batch.specs.Feed.{verdict, fed, out_after, Did, closed, close_number}
+use Rattle.batch.specs.Feed.{verdict, fed, out_after, FeedEffect, closed, close_number}
 use Rattle.totals.specs.Totals.{totals, end_line}
 use Rattle.batch.specs.Series.{Call, Calls, state_of, is_accepted, wrote_all}
 use Rattle.fade.specs.declared.run.End.{End}
@@ -78,9 +78,9 @@ abbrev pub AllAccepted : List Call → Type 0
 AllAccepted cs = All (λ c. is_accepted c ≡ true) cs
 
 -- the pieces of the calls, joined
-unfoldable pub joined : List Call → List ℕ
-joined [] = []
-joined (c ∷ cs) = c.piece ++ joined cs
+unfoldable pub pieces_of : List Call → List ℕ
+pieces_of [] = []
+pieces_of (c ∷ cs) = c.piece ++ pieces_of cs
 
 -- the input ended: nothing is left of it, and the number is that of closing the state, "then `end=8` if a tail is
 -- unfinished"
@@ -118,10 +118,10 @@ Written (Err OutOfReads) held held' text = Appends held held' text
 -- Their pieces are what was read: the input had `left` and then `left'`. What they wrote was printed: the output had
 -- `held` and then `held'`.
 pub record Turns (s s' : State) (left left' held held' : Option (List ℕ)) (cs : List Call) (next : Next) : Type 0 where
-  pub made : Calls Did s cs
+  pub made : Calls FeedEffect s cs
   pub state_is : s' ≡ state_of s cs
   pub pieces : All IsRead cs
-  pub read : Consumes left left' (joined cs)
+  pub read : Consumes left left' (pieces_of cs)
   pub written : Written next held held' (wrote_all cs)
   pub after : After next left' s cs
 

@@ -11,7 +11,7 @@ ghost use Rattle.batch.specs.Feed.{closed, close_number};
 ghost use Rattle.batch.specs.Series.{Call};
 ghost use Rattle.fade.specs.Run.{end_number, if_written, PieceTurn, AfterRead, Turn, Run, LastLines, WholeRun, status};
 
-use batch::{MORE, NotClosed, OVER_LONG, Refused, State, TOTALS};
+use batch::{ANSWER_GROWTH, NotClosed, OVER_LONG, Refused, State, TOTALS};
 use crate::stream::{read_some, write_whole};
 use std::io;
 use std::io::{Read, Write};
@@ -23,7 +23,7 @@ const PIECE: usize = 8192;
 
 // Room for the answers to any piece: they have at most as many bytes as the tail and the piece, and
 // some more for each line feed.
-const ANSWERS: usize = OVER_LONG as usize + PIECE + MORE * PIECE;
+const ANSWERS: usize = OVER_LONG as usize + PIECE + ANSWER_GROWTH * PIECE;
 
 // The most reads: no run comes to so many. A loop has to end, so they are counted.
 const READS: u64 = 0xffff_ffff_ffff_ffff;

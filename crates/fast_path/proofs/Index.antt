@@ -14,6 +14,7 @@ use Rattle.floats.proofs.Laws.Order.{clear, pattern_mono, values_of_patterns}
 use Rattle.floats.proofs.Laws.Sums.{add_mono, add_mono_left, whole_distance, SizeAtMost, size_finite, whole_at_most}
 use Rattle.floats.proofs.Laws.Cast.{part_at_most, signed_cast, whole_twice, whole_fits}
 use Rattle.fast_path.specs.Scaling.{scaled, biased, exponent_of}
+use Rattle.fast_path.specs.Edges.{lower_edge, upper_edge}
 use Rattle.fast_path.specs.Fast.{inverse_index, HasInverse, power_index, HasPower}
 pub use Rattle.fast_path.proofs.Field.{biased_below, biased_away}
 use Rattle.fast_path.proofs.Lifted.{within_read, Within}
@@ -187,7 +188,7 @@ pub size_under : (a c d : ℕ) → c ≤ 1000 → a * 1 ≤ c * d → a ≤ 1000
 size_under a c d g h = le_trans (le_of_eq (sym (mul-one a))) (le_trans h (mul-le-mul_right d g))
 
 -- -150 < t < 128
-pub exponent_small : (t : Float) → T (lt (fin true 75 (pos 1)) t) → T (lt t (fin false 1 (pos 7))) → SizeAtMost 1000 t
+pub exponent_small : (t : Float) → T (lt lower_edge t) → T (lt t upper_edge) → SizeAtMost 1000 t
 unfolding lt
 exponent_small nan g h = absurd g
 exponent_small (inf true) g h = absurd g
@@ -196,11 +197,11 @@ exponent_small (fin true m e) g h = size_under (m * up e) 150 (down e) (lit≤ t
 exponent_small (fin false m e) g h = size_under (m * up e) 128 (down e) (lit≤ tt) (le_of_lt (ltb→lt (m * up e * 1) (128 * down e) h))
 
 -- the nearest whole number to such a t
-pub whole_k : (t : Float) → T (fits binary64 t) → T (lt (fin true 75 (pos 1)) t) → T (lt t (fin false 1 (pos 7))) → Castable (nearest_whole t)
+pub whole_k : (t : Float) → T (fits binary64 t) → T (lt lower_edge t) → T (lt t upper_edge) → Castable (nearest_whole t)
 whole_k t f g h = castable (nearest_whole t) (whole_fits t) (whole_twice t f) (whole_at_most t f 1000 (exponent_small t g h))
 
 -- and what is left of t over it has a power
-pub distance_index : (t : Float) → T (fits binary64 t) → T (lt (fin true 75 (pos 1)) t) → T (lt t (fin false 1 (pos 7)))
+pub distance_index : (t : Float) → T (fits binary64 t) → T (lt lower_edge t) → T (lt t upper_edge)
     → HasPower (sub binary64 t (nearest_whole t))
 distance_index t f g h =
     let r = sub binary64 t (nearest_whole t) in
@@ -208,13 +209,13 @@ distance_index t f g h =
     power_index_lem r (sub-fits binary64 t (nearest_whole t)) w.0 w.1
 
 -- ---- what proves `exp2_fast`
-pub cast_defined : (t : Float) → T (fits binary64 t) → T (lt (fin true 75 (pos 1)) t) → T (lt t (fin false 1 (pos 7))) → T (in_signed binary64 63 (nearest_whole t ⊕ fin false 0 (pos 0)))
+pub cast_defined : (t : Float) → T (fits binary64 t) → T (lt lower_edge t) → T (lt t upper_edge) → T (in_signed binary64 63 (nearest_whole t ⊕ fin false 0 (pos 0)))
 cast_defined t f g h = (whole_k t f g h).defined
 
-pub cast_read : (t : Float) → T (fits binary64 t) → T (lt (fin true 75 (pos 1)) t) → T (lt t (fin false 1 (pos 7))) → cast (nearest_whole t) ≡ to_signed 63 (nearest_whole t)
+pub cast_read : (t : Float) → T (fits binary64 t) → T (lt lower_edge t) → T (lt t upper_edge) → cast (nearest_whole t) ≡ to_signed 63 (nearest_whole t)
 cast_read t f g h = (whole_k t f g h).read
 
-pub distance_below : (t : Float) → T (fits binary64 t) → T (lt (fin true 75 (pos 1)) t) → T (lt t (fin false 1 (pos 7))) → power_index (sub binary64 t (nearest_whole t)) < 33
+pub distance_below : (t : Float) → T (fits binary64 t) → T (lt lower_edge t) → T (lt t upper_edge) → power_index (sub binary64 t (nearest_whole t)) < 33
 distance_below t f g h = (distance_index t f g h).1
 
 pub is_0 : of_bits binary64 0 ≡ fin false 0 (pos 0)

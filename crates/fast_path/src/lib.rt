@@ -3,12 +3,12 @@
 // operations are the source's.
 #![tactic(auto)]
 
-ghost use Rattle.std.specs.Prelude.{◌≡◌, true, false, T, pos};
-ghost use Rattle.std.specs.Float.{fin};
+ghost use Rattle.std.specs.Prelude.{◌≡◌, T};
 ghost use Rattle.std.specs.Float.Ieee.{lt};
 ghost use Rattle.floats.specs.Operations.{f64};
 ghost use Rattle.double_double.specs.DoubleDouble.{dd_fmla};
 ghost use Rattle.special.specs.Special.{minus_one};
+ghost use Rattle.fast_path.specs.Edges.{lower_edge, upper_edge};
 ghost use Rattle.fast_path.specs.Fast as spec;
 
 use crate::evaluation::{MulAdd, log2p1, power};
@@ -126,8 +126,8 @@ fn pattern_test(w: u64, e: u64) -> Option<f64>
 // `decided` of other crates: a type for it would be made for one call of each.
 #[tactic(auto, using(crate::proofs::Index::two_to_t), unfolding(crate::specs::Fast::exp2_fast))]
 pub fn exp2_fast(t: f64) -> Option<f64>
-    requires t_above { T (lt (fin true 75 (pos 1)) t) }
-    requires t_below { T (lt t (fin false 1 (pos 7))) }
+    requires t_above { T (lt lower_edge t) }
+    requires t_below { T (lt t upper_edge) }
     ensures { result ≡ spec.exp2_fast t }
 {
     let k = round_ties_even(t);

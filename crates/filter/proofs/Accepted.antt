@@ -11,7 +11,7 @@ use Rattle.fast_path.specs.Scaling.{scaled}
 use Rattle.fast_path.specs.Fast.{rounding_test}
 use Rattle.fast_path.proofs.Lifted.{lifted, lifted_sum, Within}
 use Rattle.fast_path.proofs.Midpoints.{clear_of_midpoints}
-use Rattle.filter.specs.Plain.{margin}
+use Rattle.filter.specs.Plain.{fast_margin}
 use Rattle.filter.proofs.Power.{Unscaled}
 
 -- the fast path's pattern b, scaled, passes the rounding test, and its value narrows to the f32 that the plain pattern b', scaled, is nearest to
@@ -55,7 +55,7 @@ patterns b b' n w w' e p q g h l m x y z = record {
 }
 
 -- where w' is more than 2^20 + 2^15 from every midpoint, w is more than 2^15 from each, and no midpoint is between them
-module _ (w w' e : ℕ) (p : Patterns w w' e) (t : 2 * margin < (w' + (0x10000000 + margin)) % 0x20000000) where
+module _ (w w' e : ℕ) (p : Patterns w w' e) (t : 2 * fast_margin < (w' + (0x10000000 + fast_margin)) % 0x20000000) where
   clear : 0x6000 < (w + 0x10002000) % 0x20000000
   clear = omega arith
 
@@ -68,7 +68,7 @@ module _ (w w' e : ℕ) (p : Patterns w w' e) (t : 2 * margin < (w' + (0x1000000
       ∙ ap (of_bits binary32) (normal_magnitude w (omega arith) (omega arith) ∙ (omega arith))
 
 -- ---- the two together, for the patterns before they are scaled
-pub accepted : (b b' : ℕ) (k : ℤ) → Unscaled b → Unscaled b' → b ≤ b' + 2 ^ 20 → b' ≤ b + 2 ^ 20 → Within 124 k → 2 * margin < (scaled b' k + (0x10000000 + margin)) % 0x20000000 → Accepted b b' k
+pub accepted : (b b' : ℕ) (k : ℤ) → Unscaled b → Unscaled b' → b ≤ b' + 2 ^ 20 → b' ≤ b + 2 ^ 20 → Within 124 k → 2 * fast_margin < (scaled b' k + (0x10000000 + fast_margin)) % 0x20000000 → Accepted b b' k
 accepted b b' k u v g h w t = record {
   passes = sym (passed (scaled b k) (scaled b' k) (scaled 0x3d61d00000000000 k) p t);
   narrows = narrowed_is (scaled b k) (scaled b' k) (scaled 0x3d61d00000000000 k) p t;

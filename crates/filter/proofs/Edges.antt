@@ -1,8 +1,8 @@
--- What the plain t' settles at the edges: at most -151, t is at the lower edge (`low_edge_lem`); at least 129, at the upper (`high_edge_lem`); 0, at that of 1 (`at_one`); and from -149.5 to -128 the fast
+-- What the plain t' settles at the edges: at most -151, t is at the lower edge (`lower_edge_lem`); at least 129, at the upper (`upper_edge_lem`); 0, at that of 1 (`at_one`); and from -149.5 to -128 the fast
 -- path fails its tests, since its value is below the normal f32s (`below_normals`). Assumes nothing.
-use Rattle.std.proofs.Common.{◌≡◌, ℕ, zero, suc, ◌+◌, ◌*◌, ◌/◌, ◌%◌, ◌^◌, ◌<◌, ◌≤◌, min, Bool, true, false, cond, not, ◌&&◌, leb, ◌⊎◌, ℤ, pos, negsuc, neg_ℤ, sym, refl, ap, ◌∙◌, subst, inl, inr, true≢false, le_trans, le_of_eq, mul-le-mul_right, mul_assoc, mul_comm, mul-pos, le-div_iff_mul-le, zero-add, mul_right_comm, le_of_mul-le-mul_right, arith, lit<, lit≤, le-leb, None}
+use Rattle.std.proofs.Common.{◌≡◌, ℕ, zero, suc, ◌+◌, ◌*◌, ◌/◌, ◌%◌, ◌^◌, ◌<◌, ◌≤◌, min, Bool, true, false, cond, not, ◌&&◌, ◌⊎◌, ℤ, pos, negsuc, neg_ℤ, sym, refl, ap, ◌∙◌, subst, inl, inr, true≢false, le_trans, le_of_eq, mul-le-mul_right, mul_assoc, mul_comm, mul-pos, le-div_iff_mul-le, zero-add, mul_right_comm, le_of_mul-le-mul_right, arith, lit<, lit≤, le-leb, None}
 use borrow.Author.Tests.{lt-leb}
-use lib.Ieee.{Float, nan, inf, fin, binary64, up, down, size, fits, to_bits, to_signed, le, lt, eq, is_nan}
+use lib.Ieee.{Float, nan, inf, fin, binary64, up, down, size, fits, to_signed, le, lt, eq, is_nan}
 use lib.Ieee.Fits.{down_pos}
 use Rattle.floats.specs.Operations.{◌⊖◌}
 use Rattle.floats.specs.Narrowing.{nearest_whole}
@@ -12,6 +12,7 @@ use Rattle.floats.proofs.Laws.Sums.{whole_at_most}
 use Rattle.floats.proofs.Laws.Units.{exponent, in_units, bits_of_value, fits_signed, bits_under_top}
 use Rattle.special.specs.Special as Special
 use Rattle.special.proofs.Rule.{finite_number}
+use Rattle.fast_path.specs.Edges.{lower_edge, upper_edge, gives_zero, gives_infinity, gives_one}
 use Rattle.fast_path.specs.Scaling.{scaled}
 use Rattle.fast_path.specs.Fast.{exp2_reduced, exp2_fast}
 use Rattle.fast_path.proofs.Index.{within_of_size}
@@ -20,22 +21,22 @@ use Rattle.fast_path.proofs.Midpoints.{below_normal}
 use Rattle.bounds.proofs.Values.{per_one, plus, less, mag, mag_of, one_side, Number}
 use Rattle.bounds.proofs.OwnScale.{Nil}
 use Rattle.bounds.proofs.Scales.{S, S_pos, one_is, unit, Bound}
-use Rattle.bounds.proofs.Compared.{le_true, le_false, lt_true, lt_false, units_of_le, units_of_not_lt, units_in_size}
+use Rattle.bounds.proofs.Compared.{le_true, le_false, units_of_le, units_of_not_lt, units_in_size}
 use Rattle.bounds.proofs.Distances.{sub_apart}
 use Rattle.bounds.proofs.Nearest.{whole_bound}
-use Rattle.filter.specs.Plain.{part_of, low_edge, slow_from, slow_to, high_edge}
+use Rattle.filter.specs.Plain.{part_of, plain_lower_edge, slow_from, slow_to, plain_upper_edge}
 use Rattle.filter.specs.Right.{Inside, Fails, AtOne, AtInfinity}
-use Rattle.filter.proofs.Limits.{lower_edge, upper_edge}
+use Rattle.filter.proofs.Limits.{lower_edge_units, upper_edge_units}
 use Rattle.filter.proofs.Power.{Unscaled, part_half, fast_unscaled}
 use Rattle.filter.proofs.Times.{TimesBeside}
 
 -- ---- the numbers of the tests
 -- -151 is a thousandth and more beyond -150, and 129 beyond 128
-low_end : Number low_edge × (plus low_edge ≡ 0) × (1502 * (2 ^ 53 * S) ≤ less low_edge * 10)
+low_end : Number plain_lower_edge × (plus plain_lower_edge ≡ 0) × (1502 * (2 ^ 53 * S) ≤ less plain_lower_edge * 10)
 unfolding fits S
 low_end = (record { held = tt; plain = tt }, refl, lit≤ tt)
 
-high_end : Number high_edge × (less high_edge ≡ 0) × (1282 * (2 ^ 53 * S) ≤ plus high_edge * 10)
+high_end : Number plain_upper_edge × (less plain_upper_edge ≡ 0) × (1282 * (2 ^ 53 * S) ≤ plus plain_upper_edge * 10)
 unfolding fits S
 high_end = (record { held = tt; plain = tt }, refl, lit≤ tt)
 
@@ -57,18 +58,18 @@ pub one_pos : 0 < 2 ^ 53 * S
 one_pos = mul-pos (lit< tt) S_pos
 
 -- ---- the outcomes of the tests for the edges, from t in units
-pub not_low : {t : Float} → Number t → less t < 150 * (2 ^ 53 * S) + plus t → le t (fin true 75 (pos 1)) ≡ false
-not_low {t} n h = le_false n lower_edge.0 (omega (arith, lower_edge.2 ∙ mul_assoc 150 (2 ^ 53) S))
+pub not_low : {t : Float} → Number t → less t < 150 * (2 ^ 53 * S) + plus t → gives_zero t ≡ false
+not_low {t} n h = le_false n lower_edge_units.0 (omega (arith, lower_edge_units.2 ∙ mul_assoc 150 (2 ^ 53) S))
 
-pub not_high : {t : Float} → Number t → plus t < 128 * (2 ^ 53 * S) + less t → lt t (fin false 1 (pos 7)) ≡ true
-not_high {t} n h = lt_true n upper_edge.0 (omega (arith, upper_edge.2 ∙ mul_assoc 128 (2 ^ 53) S))
+pub not_high : {t : Float} → Number t → plus t < 128 * (2 ^ 53 * S) + less t → gives_infinity t ≡ false
+not_high {t} n h = le_false upper_edge_units.0 n (omega (arith, upper_edge_units.1, upper_edge_units.2 ∙ mul_assoc 128 (2 ^ 53) S))
 
 -- a t of 2^-301 at least is not at the edge of 1
 shifted_place : (s : Bool) (n : ℕ) → n < 2 ^ 63 → (cond s (2 ^ 63) 0 + n) * 2 % 2 ^ 64 ≡ n * 2
 shifted_place true n h = omega arith
 shifted_place false n h = omega arith
 
-pub not_tiny : (t : Float) → Number t → 2 ^ 773 ≤ mag t → leb (to_bits binary64 t * 2 % 2 ^ 64) 0x3e6715476ba97f14 ≡ false
+pub not_tiny : (t : Float) → Number t → 2 ^ 773 ≤ mag t → gives_one t ≡ false
 not_tiny nan n h = absurd n.plain
 not_tiny (inf s) n h = absurd n.plain
 not_tiny (fin s m e) n h =
@@ -89,10 +90,10 @@ under_1000 : {t t' : Float} → TimesBeside t t' → (less t + plus t') * 1000 �
 under_1000 {t} {t'} b = thousandth (less t + plus t') (plus t + less t') (mag t') b.under
 
 -- ---- the lower edge
-pub low_edge_lem : {t t' : Float} → TimesBeside t t' → le t' low_edge ≡ true → le t (fin true 75 (pos 1)) ≡ true
-low_edge_lem {t} {t'} b h =
-    le_true b.number lower_edge.0
-    (go (plus t) (less t) (plus t') (less t') (plus (fin true 75 (pos 1))) (less (fin true 75 (pos 1))) (plus low_edge) (less low_edge) (2 ^ 53 * S) (one_side t') lower_edge.1 (lower_edge.2 ∙ mul_assoc 150 (2 ^ 53) S) low_end.1 low_end.2
+pub lower_edge_lem : {t t' : Float} → TimesBeside t t' → le t' plain_lower_edge ≡ true → gives_zero t ≡ true
+lower_edge_lem {t} {t'} b h =
+    le_true b.number lower_edge_units.0
+    (go (plus t) (less t) (plus t') (less t') (plus lower_edge) (less lower_edge) (plus plain_lower_edge) (less plain_lower_edge) (2 ^ 53 * S) (one_side t') lower_edge_units.1 (lower_edge_units.2 ∙ mul_assoc 150 (2 ^ 53) S) low_end.1 low_end.2
     (units_of_le b.beside low_end.0 h) (over_1000 b))
   where
     go : (p n q m c d f g s : ℕ) → (q ≡ 0) ⊎ (m ≡ 0) → c ≡ 0 → d ≡ 150 * s → f ≡ 0 → 1502 * s ≤ g * 10 → q + g ≤ f + m → (p + m) * 1000 ≤ (n + q) * 1000 + (q + m) → p + d ≤ c + n
@@ -100,12 +101,12 @@ low_edge_lem {t} {t'} b h =
     go p n q m c d f g s (inr e) e1 e2 e3 e4 h i = omega arith
 
 -- ---- the upper edge
-pub high_edge_lem : {t t' : Float} → TimesBeside t t' → le high_edge t' ≡ true → AtInfinity t
-high_edge_lem {t} {t'} b h =
-    let r = go (plus t) (less t) (plus t') (less t') (plus high_edge) (less high_edge) (2 ^ 53 * S) (one_side t') high_end.1 high_end.2 (units_of_le high_end.0 b.beside h) (under_1000 b) in
+pub upper_edge_lem : {t t' : Float} → TimesBeside t t' → le plain_upper_edge t' ≡ true → AtInfinity t
+upper_edge_lem {t} {t'} b h =
+    let r = go (plus t) (less t) (plus t') (less t') (plus plain_upper_edge) (less plain_upper_edge) (2 ^ 53 * S) (one_side t') high_end.1 high_end.2 (units_of_le high_end.0 b.beside h) (under_1000 b) in
     record {
       above = not_low b.number (omega (arith, r, one_pos));
-      beyond = lt_false b.number upper_edge.0 (beyond (plus t) (less t) (plus (fin false 1 (pos 7))) (less (fin false 1 (pos 7))) (2 ^ 53 * S) upper_edge.1 (upper_edge.2 ∙ mul_assoc 128 (2 ^ 53) S) r);
+      beyond = le_true upper_edge_units.0 b.number (beyond (plus t) (less t) (plus upper_edge) (less upper_edge) (2 ^ 53 * S) upper_edge_units.1 (upper_edge_units.2 ∙ mul_assoc 128 (2 ^ 53) S) r);
     }
   where
     go : (p n q m f g s : ℕ) → (q ≡ 0) ⊎ (m ≡ 0) → g ≡ 0 → 1282 * s ≤ f * 10 → f + m ≤ q + g → (n + q) * 1000 ≤ (p + m) * 1000 + (q + m) → 128 * s + n ≤ p
@@ -132,7 +133,7 @@ nil_at_one {t} z =
     high : (p n s : ℕ) → p ≡ 0 → 0 < s → p < 128 * s + n
     high p n s e h = omega arith
 
-    zero_bits : (x : Float) → Number x → mag x ≡ 0 → leb (to_bits binary64 x * 2 % 2 ^ 64) 0x3e6715476ba97f14 ≡ true
+    zero_bits : (x : Float) → Number x → mag x ≡ 0 → gives_one x ≡ true
     zero_bits nan n e = absurd n.plain
     zero_bits (inf s) n e = absurd n.plain
     zero_bits (fin s m d) n e =

@@ -5,7 +5,8 @@ use lib.Ieee.{Float, fin, binary64, fits, of_bits, sub, neg, le, lt}
 use Rattle.bounds.proofs.Values.{plus, less, one_side, Number}
 use Rattle.bounds.proofs.Scales.{S, unit, Bound, neg_bound, tested}
 use Rattle.bounds.proofs.Compared.{lt_true, units_of_le}
-use Rattle.filter.specs.Plain.{switch_gap, part_end, rest_end}
+use Rattle.fast_path.specs.Edges.{lower_edge, upper_edge}
+use Rattle.filter.specs.Plain.{fast_switch_gap, part_end, rest_end}
 
 -- between a and b, both at most K
 pub between_bound : {a b x : Float} (K : ℕ) → Bound S K a → Bound S K b → Number x → le a x ≡ true → le x b ≡ true → Bound S K x
@@ -60,24 +61,24 @@ pub ruleset edges = (is_minus_151, is_minus_299_halves, is_minus_128, is_129)
 
 -- ---- the numbers of the tests
 -- -150 and 128
-pub lower_edge : Number (fin true 75 (pos 1)) × (plus (fin true 75 (pos 1)) ≡ 0) × (less (fin true 75 (pos 1)) ≡ 150 * 2 ^ 53 * S)
+pub lower_edge_units : Number lower_edge × (plus lower_edge ≡ 0) × (less lower_edge ≡ 150 * 2 ^ 53 * S)
 unfolding fits S
-lower_edge = (record { held = tt; plain = tt }, refl, refl)
+lower_edge_units = (record { held = tt; plain = tt }, refl, refl)
 
-pub upper_edge : Number (fin false 1 (pos 7)) × (less (fin false 1 (pos 7)) ≡ 0) × (plus (fin false 1 (pos 7)) ≡ 128 * 2 ^ 53 * S)
+pub upper_edge_units : Number upper_edge × (less upper_edge ≡ 0) × (plus upper_edge ≡ 128 * 2 ^ 53 * S)
 unfolding fits S
-upper_edge = (record { held = tt; plain = tt }, refl, refl)
+upper_edge_units = (record { held = tt; plain = tt }, refl, refl)
 
 -- what is 125 at most in size is between them
 pub record InsideEdges (t : Float) : Type 0 where
-  pub above : lt (fin true 75 (pos 1)) t ≡ true
-  pub below : lt t (fin false 1 (pos 7)) ≡ true
+  pub above : lt lower_edge t ≡ true
+  pub below : lt t upper_edge ≡ true
 
 pub inside_edges : {t : Float} → Bound S (125 * 2 ^ 53) t → InsideEdges t
 unfolding S
 inside_edges b = record {
-  above = over_limit (125 * 2 ^ 53) b lower_edge.0 lower_edge.1 (subst (λ (k : ℕ). 125 * 2 ^ 53 * S < k) (sym lower_edge.2) (lit< tt));
-  below = under_limit (125 * 2 ^ 53) b upper_edge.0 upper_edge.1 (subst (λ (k : ℕ). 125 * 2 ^ 53 * S < k) (sym upper_edge.2) (lit< tt));
+  above = over_limit (125 * 2 ^ 53) b lower_edge_units.0 lower_edge_units.1 (subst (λ (k : ℕ). 125 * 2 ^ 53 * S < k) (sym lower_edge_units.2) (lit< tt));
+  below = under_limit (125 * 2 ^ 53) b upper_edge_units.0 upper_edge_units.1 (subst (λ (k : ℕ). 125 * 2 ^ 53 * S < k) (sym upper_edge_units.2) (lit< tt));
 }
 
 -- ±124, ±(1/2 - 2^-30) and ±(1/64 - 2^-30)
@@ -94,8 +95,8 @@ middle_bound n g h = between_bound (124 * 2 ^ 53) low high n g h
 pub end_bound : {t : Float} (K : ℕ) (c : Float) → Bound S K c → Number t → le t c ≡ true → le (neg c) t ≡ true → Bound S K t
 end_bound K c b n g h = between_bound K (neg_bound b) b n h g
 
-pub part_bound : {t : Float} → Number t → le t (part_end switch_gap) ≡ true → le (neg (part_end switch_gap)) t ≡ true → Bound S (2 ^ 52 - 2 ^ 23) t
-part_bound n g h = end_bound (2 ^ 52 - 2 ^ 23) (part_end switch_gap) (unfold of_bits fits sub in tested (2 ^ 52 - 2 ^ 23) (part_end switch_gap) tt) n g h
+pub part_bound : {t : Float} → Number t → le t (part_end fast_switch_gap) ≡ true → le (neg (part_end fast_switch_gap)) t ≡ true → Bound S (2 ^ 52 - 2 ^ 23) t
+part_bound n g h = end_bound (2 ^ 52 - 2 ^ 23) (part_end fast_switch_gap) (unfold of_bits fits sub in tested (2 ^ 52 - 2 ^ 23) (part_end fast_switch_gap) tt) n g h
 
-pub rest_bound : {t : Float} → Number t → le t (rest_end switch_gap) ≡ true → le (neg (rest_end switch_gap)) t ≡ true → Bound S (2 ^ 47 - 2 ^ 23) t
-rest_bound n g h = end_bound (2 ^ 47 - 2 ^ 23) (rest_end switch_gap) (unfold of_bits fits sub in tested (2 ^ 47 - 2 ^ 23) (rest_end switch_gap) tt) n g h
+pub rest_bound : {t : Float} → Number t → le t (rest_end fast_switch_gap) ≡ true → le (neg (rest_end fast_switch_gap)) t ≡ true → Bound S (2 ^ 47 - 2 ^ 23) t
+rest_bound n g h = end_bound (2 ^ 47 - 2 ^ 23) (rest_end fast_switch_gap) (unfold of_bits fits sub in tested (2 ^ 47 - 2 ^ 23) (rest_end fast_switch_gap) tt) n g h

@@ -13,6 +13,7 @@ use Rattle.floats.proofs.Laws.SmallWhole.{plus_zero, NotMinusZero, left_over}
 use Rattle.floats.proofs.Laws.Units.{HasSign, exponent}
 use Rattle.special.specs.Special as Special
 use Rattle.tables.specs.Tables.{entry, compoundf_exp2_t}
+use Rattle.fast_path.specs.Edges.{lower_edge, upper_edge}
 use Rattle.fast_path.specs.Scaling.{scaled}
 use Rattle.fast_path.specs.Fast.{power_index}
 use Rattle.fast_path.proofs.Lifted.{lifted, Within}
@@ -22,7 +23,7 @@ use Rattle.bounds.proofs.Scales.{S, one_is, Bound, at}
 use Rattle.bounds.proofs.Distances.{apart_at}
 use Rattle.bounds.proofs.Apart.{apart_same}
 use Rattle.bounds.proofs.Compared.{le_of_units, units_in_size, units_of_not_lt}
-use Rattle.filter.specs.Plain.{part_of, rest_of, plain_pattern, switch_gap, part_end, rest_end, clear_of_switches, is_tiny, Middle}
+use Rattle.filter.specs.Plain.{part_of, rest_of, power_at, plain_pattern, fast_switch_gap, part_end, rest_end, clear_of_switches, is_tiny_t, Middle}
 pub use Rattle.filter.proofs.Limits.{is_minus_124, is_124}
 use Rattle.filter.proofs.Limits.{InsideEdges, inside_edges, middle_bound, part_bound, rest_bound}
 use Rattle.filter.proofs.Power.{Unscaled, power_beside}
@@ -38,8 +39,8 @@ scaled_range b k u w = go b (lifted k) (scaled b k) u.low u.high (lifted_low k w
 
 -- ---- t that is not tiny
 -- |t| is 2^-300 at least
-pub not_small : {t : Float} → Number t → is_tiny t ≡ false → 2 ^ 774 ≤ mag t
-unfolding is_tiny
+pub not_small : {t : Float} → Number t → is_tiny_t t ≡ false → 2 ^ 774 ≤ mag t
+unfolding is_tiny_t
 not_small {t} n h = go (lt (neg (f64 0x2d30000000000000)) t) refl (lt t (f64 0x2d30000000000000)) refl h
   where
     below : Number (neg (f64 0x2d30000000000000)) × (plus (neg (f64 0x2d30000000000000)) ≡ 0) × (less (neg (f64 0x2d30000000000000)) ≡ 2 ^ 774)
@@ -92,7 +93,7 @@ pub bounded : (t : Float) → T (fits binary64 t) → T (le (fin true 31 (pos 2)
 bounded t f g h = middle_bound (record { held = f; plain = between_finite (fin true 31 (pos 2)) t (fin false 31 (pos 2)) tt tt g h }) (is_true _ g) (is_true _ h)
 
 -- not below -124 and not above 124, and not tiny
-pub middle_of : (t : Float) → T (fits binary64 t) → T (finite t) → lt t (fin true 31 (pos 2)) ≡ false → lt (fin false 31 (pos 2)) t ≡ false → is_tiny t ≡ false → Middle t
+pub middle_of : (t : Float) → T (fits binary64 t) → T (finite t) → lt t (fin true 31 (pos 2)) ≡ false → lt (fin false 31 (pos 2)) t ≡ false → is_tiny_t t ≡ false → Middle t
 unfolding fits
 middle_of t f p g h a =
     let n : Number t = record { held = f; plain = p } in
@@ -123,13 +124,13 @@ module _ (t : Float) (b : Bound S (124 * 2 ^ 53) t) where
   rest_fits = sub-fits binary64 (part_of t) (entry compoundf_exp2_t (power_index (part_of t)))
 
   -- clear of the switches
-  pub switch_bounds : clear_of_switches switch_gap (part_of t) (rest_of t) ≡ true → Bound S (2 ^ 52 - 2 ^ 23) (part_of t) × Bound S (2 ^ 47 - 2 ^ 23) (rest_of t)
+  pub switch_bounds : clear_of_switches fast_switch_gap (part_of t) (rest_of t) ≡ true → Bound S (2 ^ 52 - 2 ^ 23) (part_of t) × Bound S (2 ^ 47 - 2 ^ 23) (rest_of t)
   unfolding of_bits sub neg
   switch_bounds e =
-      let o = four (le (part_of t) (part_end switch_gap)) (le (neg (part_end switch_gap)) (part_of t)) (le (rest_of t) (rest_end switch_gap)) (le (neg (rest_end switch_gap)) (rest_of t)) e in
-      (part_bound (of_tests (part_of t) (neg (part_end switch_gap)) (part_end switch_gap) part_fits tt tt o.1 o.0) o.0 o.1, rest_bound (of_tests (rest_of t) (neg (rest_end switch_gap)) (rest_end switch_gap) rest_fits tt tt o.3 o.2) o.2 o.3)
+      let o = four (le (part_of t) (part_end fast_switch_gap)) (le (neg (part_end fast_switch_gap)) (part_of t)) (le (rest_of t) (rest_end fast_switch_gap)) (le (neg (rest_end fast_switch_gap)) (rest_of t)) e in
+      (part_bound (of_tests (part_of t) (neg (part_end fast_switch_gap)) (part_end fast_switch_gap) part_fits tt tt o.1 o.0) o.0 o.1, rest_bound (of_tests (rest_of t) (neg (rest_end fast_switch_gap)) (rest_end fast_switch_gap) rest_fits tt tt o.3 o.2) o.2 o.3)
 
-  pub plain_range : clear_of_switches switch_gap (part_of t) (rest_of t) ≡ true → (898 * 2 ^ 52 ≤ scaled (plain_pattern t) (to_signed 63 (nearest_whole t))) × (scaled (plain_pattern t) (to_signed 63 (nearest_whole t)) < 1148 * 2 ^ 52)
+  pub plain_range : clear_of_switches fast_switch_gap (part_of t) (rest_of t) ≡ true → (898 * 2 ^ 52 ≤ scaled (plain_pattern t) (to_signed 63 (nearest_whole t))) × (scaled (plain_pattern t) (to_signed 63 (nearest_whole t)) < 1148 * 2 ^ 52)
   plain_range e =
       let o = switch_bounds e in
       let s = signed t b.number.plain in
@@ -140,19 +141,24 @@ module _ (t : Float) (f : T (fits binary64 t)) (m : Middle t) where
   start : Bound S (124 * 2 ^ 53) t
   start = bounded t f m.least m.most
 
-  pub splits_above : T (lt (fin true 75 (pos 1)) t)
+  pub splits_above : T (lt lower_edge t)
   splits_above = subst T (sym (edges_of start).above) tt
 
-  pub splits_below : T (lt t (fin false 1 (pos 7)))
+  pub splits_below : T (lt t upper_edge)
   splits_below = subst T (sym (edges_of start).below) tt
 
   pub splits_other : eq t Special.zero ≡ false
   splits_other = not_zero t (lt_of_lt_of_le (lit< tt) (not_small start.number m.apart))
 
-  pub plain_least : clear_of_switches switch_gap (part_of t) (rest_of t) ≡ true → 898 * 2 ^ 52 ≤ scaled (plain_pattern t) (to_signed 63 (nearest_whole t))
+  pub plain_least : clear_of_switches fast_switch_gap (part_of t) (rest_of t) ≡ true → 898 * 2 ^ 52 ≤ scaled (plain_pattern t) (to_signed 63 (nearest_whole t))
   plain_least e = (plain_range t start e).0
 
-  pub plain_below : clear_of_switches switch_gap (part_of t) (rest_of t) ≡ true → scaled (plain_pattern t) (to_signed 63 (nearest_whole t)) < 1148 * 2 ^ 52
+  pub plain_below : clear_of_switches fast_switch_gap (part_of t) (rest_of t) ≡ true → scaled (plain_pattern t) (to_signed 63 (nearest_whole t)) < 1148 * 2 ^ 52
   plain_below e = (plain_range t start e).1
 
-pub ruleset two_steps = (splits_above, splits_below, splits_other, plain_least, plain_below)
+-- the pattern that `Split` scales
+pub pattern_is : (t : Float) → power_at (power_index (part_of t)) (rest_of t) ≡ plain_pattern t
+unfolding plain_pattern
+pattern_is t = refl
+
+pub ruleset two_steps = (splits_above, splits_below, splits_other, plain_least, plain_below, pattern_is)

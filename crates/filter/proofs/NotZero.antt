@@ -11,6 +11,7 @@ use Rattle.floats.proofs.Laws.Cast.{whole_fits}
 use Rattle.floats.proofs.Laws.SmallWhole.{plus_zero, small_of_size, NotMinusZero, left_over}
 use Rattle.floats.proofs.Laws.Units.{exponent}
 use Rattle.special.specs.Special as Special
+use Rattle.fast_path.specs.Edges.{lower_edge, upper_edge}
 use Rattle.fast_path.specs.Fast.{power_place, power_index}
 pub use Rattle.fast_path.proofs.Index.{cast_defined, cast_read}
 use Rattle.fast_path.proofs.Index.{exponent_small, distance_index, distance_below}
@@ -28,7 +29,7 @@ not_minus_zero (fin true zero e) h = absurd (true≢false (sym (level (0 * up e 
     level a b x y = rw (x, y) refl
 not_minus_zero (fin true (suc m) e) h = inr (zero-lt-suc m)
 
-module _ (t : Float) (f : T (fits binary64 t)) (above : T (lt (fin true 75 (pos 1)) t)) (below : T (lt t (fin false 1 (pos 7)))) where
+module _ (t : Float) (f : T (fits binary64 t)) (above : T (lt lower_edge t)) (below : T (lt t upper_edge)) where
   pub whole_small : T (lt (absolute t) (fin false 1 (pos 51)))
   whole_small = small_of_size 1000 t (lit< tt) (exponent_small t above below)
 

@@ -24,7 +24,7 @@ use Rattle.bounds.proofs.Distances.{Apart, apart_at, sub_apart}
 use Rattle.bounds.proofs.Grids.{Grid, Count, Clear, on_grid_clear, count_difference, NotMinusNought, sum_nought, sums_same}
 use Rattle.bounds.proofs.Compared.{Positive, positive_add, positive_at, tested_positive, bits_by_field, le_of_units}
 use Rattle.bounds.proofs.Nearest.{Left, part_exact, whole_bound, whole_value}
-use Rattle.filter.specs.Plain.{plain_expf_poly, part_of, rest_of, plain_pattern, switch_gap, part_end, clear_of_index, clear_of_switches, Middle}
+use Rattle.filter.specs.Plain.{plain_expf_poly, part_of, rest_of, plain_pattern, fast_switch_gap, part_end, clear_of_index, clear_of_switches, Middle}
 use Rattle.filter.proofs.Limits.{rest_bound}
 use Rattle.filter.proofs.Power.{part_half}
 use Rattle.filter.proofs.Accepted.{within_more}
@@ -172,8 +172,8 @@ digits32 t = to_bits binary64 (wide ⊕ t) + 16
 pub record OneStep (t : Float) : Type 0 where
   pub index : power_index (part_of t) ≡ digits32 t % 32
   pub rest : rest_of t ≡ t ⊖ nearest32nd t
-  pub below : le (part_of t) (part_end switch_gap) ≡ true
-  pub above : le (neg (part_end switch_gap)) (part_of t) ≡ true
+  pub below : le (part_of t) (part_end fast_switch_gap) ≡ true
+  pub above : le (neg (part_end fast_switch_gap)) (part_of t) ≡ true
   pub k : lifted (to_signed 63 (nearest_whole t)) % 4096 ≡ digits32 t / 32 % 4096
 
 module _ (t : Float) (b : Bound S (124 * 2 ^ 53) t) where
@@ -306,26 +306,26 @@ module _ (t : Float) (b : Bound S (124 * 2 ^ 53) t) where
     one_step = record {
       index = index ∙ sym index_is;
       rest = rest;
-      below = is_true _ (le_of_units (t ⊖ nearest_whole t) (part_end switch_gap) part_is.number end.0 (omega (arith, end.1, end.2, o.0)));
-      above = is_true _ (le_of_units (neg (part_end switch_gap)) (t ⊖ nearest_whole t) (neg_number end.0) part_is.number (omega (arith, neg_plus (part_end switch_gap) ∙ end.2, neg_less (part_end switch_gap) ∙ end.1, o.1)));
+      below = is_true _ (le_of_units (t ⊖ nearest_whole t) (part_end fast_switch_gap) part_is.number end.0 (omega (arith, end.1, end.2, o.0)));
+      above = is_true _ (le_of_units (neg (part_end fast_switch_gap)) (t ⊖ nearest_whole t) (neg_number end.0) part_is.number (omega (arith, neg_plus (part_end fast_switch_gap) ∙ end.2, neg_less (part_end fast_switch_gap) ∙ end.1, o.1)));
       k = ap (λ (z : ℤ). lifted z % 4096) (lifted_value (nearest_whole t) k.sign k.size k.value k_most) ∙ last_digits k.sign k.size j k_most (k_is beside) ∙ sym k_digits;
     }
       where
         o : (plus (t ⊖ nearest_whole t) ≤ less (t ⊖ nearest_whole t) + 31 * 2 ^ 47 * S) × (less (t ⊖ nearest_whole t) ≤ plus (t ⊖ nearest_whole t) + 31 * 2 ^ 47 * S)
         o = part_most beside _ _ part_is.is
 
-        end : Number (part_end switch_gap) × (plus (part_end switch_gap) ≡ (2 ^ 52 - 2 ^ 23) * S) × (less (part_end switch_gap) ≡ 0)
+        end : Number (part_end fast_switch_gap) × (plus (part_end fast_switch_gap) ≡ (2 ^ 52 - 2 ^ 23) * S) × (less (part_end fast_switch_gap) ≡ 0)
         end = unfold of_bits fits sub S in (record { held = tt; plain = tt }, refl, refl)
 
         k_most : k.size ≤ 124
         k_most = le_of_mul-le-mul_right (le_trans (le_of_eq (sym (units_mag k.units))) (le_trans (whole_bound 124 b).size (le_of_eq (omega (arith, one_is))))) per_one_pos
 
 -- ---- so the tests of the two steps pass, and the scaled pattern is theirs
-module _ (t : Float) (b : Bound S (124 * 2 ^ 53) t) (big : 0 < mag t) (some : 0 < digits32 t % 32) (clear : clear_of_index switch_gap (t ⊖ nearest32nd t) ≡ true) where
+module _ (t : Float) (b : Bound S (124 * 2 ^ 53) t) (big : 0 < mag t) (some : 0 < digits32 t % 32) (clear : clear_of_index fast_switch_gap (t ⊖ nearest32nd t) ≡ true) where
   step : OneStep t
   step = one_step t b some big (rest_bound (sub_bound b (nearest_bound t b) tt).number (search rules) (search rules))
 
-  pub clear_of_both : clear_of_switches switch_gap (part_of t) (rest_of t) ≡ true
+  pub clear_of_both : clear_of_switches fast_switch_gap (part_of t) (rest_of t) ≡ true
   clear_of_both = rw (step.below, step.above, step.rest, clear) refl
 
   pub same_pattern : (v : ℕ) → v ≡ to_bits binary64 ((pair_entry compoundf_exp2_u (digits32 t % 32)).hi ⊗ plain_expf_poly (t ⊖ nearest32nd t))
@@ -356,8 +356,8 @@ module _ (t : Float) (f : T (fits binary64 t)) (m : Middle t) where
   pub wide_fits : digits32 t < 2 ^ 64
   wide_fits = digits_fit t start
 
-  module _ (some : 0 < digits32 t % 32) (clear : clear_of_index switch_gap (t ⊖ nearest32nd t) ≡ true) where
-    pub clear_at_once : clear_of_switches switch_gap (part_of t) (rest_of t) ≡ true
+  module _ (some : 0 < digits32 t % 32) (clear : clear_of_index fast_switch_gap (t ⊖ nearest32nd t) ≡ true) where
+    pub clear_at_once : clear_of_switches fast_switch_gap (part_of t) (rest_of t) ≡ true
     clear_at_once = clear_of_both t start nonzero some clear
 
     pub pattern_at_once : (to_bits binary64 ((pair_entry compoundf_exp2_u (digits32 t % 32)).hi ⊗ plain_expf_poly (t ⊖ nearest32nd t)) + digits32 t / 32 % 4096 * 2 ^ 52) % 2 ^ 64 ≡ scaled (plain_pattern t) (to_signed 63 (nearest_whole t))

@@ -1,13 +1,14 @@
 -- What the filter finds of the plain t' is right of t = l×y as the fast path has it (`plain_right`): at the edges by how near the two are, and between them by the nearness of the two powers. Assumes
 -- nothing.
-use Rattle.std.proofs.Common.{◌≡◌, ℕ, ◌+◌, ◌-◌, ◌*◌, ◌/◌, ◌%◌, ◌^◌, ◌<◌, ◌≤◌, Bool, true, false, cond, ◌&&◌, ltb, ◌⊎◌, T, pos, Option, sym, subst, refl, ap, ◌∙◌, inl, inr, le_trans, le_of_eq, lt_of_lt_of_le, add-zero, mul_assoc, zero-add, arith, lit<, lit≤, ltb-true, Some, None}
+use Rattle.std.proofs.Common.{◌≡◌, ℕ, ◌+◌, ◌-◌, ◌*◌, ◌/◌, ◌%◌, ◌^◌, ◌<◌, ◌≤◌, Bool, true, false, cond, not, ◌&&◌, ltb, ◌⊎◌, T, pos, Option, sym, subst, refl, ap, ◌∙◌, inl, inr, le_trans, le_of_eq, lt_of_lt_of_le, add-zero, mul_assoc, zero-add, arith, lit<, lit≤, ltb-true, Some, None}
 use lib.Ieee.Scale.{finite}
-use lib.Ieee.{Float, fin, binary32, fits, of_bits, to_signed, le, lt, eq}
+use lib.Ieee.{Float, fin, binary32, fits, of_bits, to_signed, le, lt, eq, is_nan}
 use Rattle.floats.specs.Operations.{◌⊖◌, ◌⊗◌, f64}
 use Rattle.floats.specs.Narrowing.{nearest_whole}
 use Rattle.floats.proofs.Laws.Units.{HasSign}
 use Rattle.special.specs.Operands.{Tabled}
 use Rattle.special.specs.Special as Special
+use Rattle.special.proofs.Rule.{finite_number}
 use Rattle.fast_path.specs.Scaling.{scaled}
 use Rattle.fast_path.specs.Fast.{compoundf_log2p1_fast, exp2_reduced, rounding_test, exp2_fast}
 use Rattle.bounds.proofs.Values.{plus, less, mag, one_side, Number}
@@ -18,7 +19,7 @@ use Rattle.bounds.proofs.Nearest.{sign_above, sign_below}
 use Rattle.filter.specs.declared.Found.{Found}
 use Rattle.filter.specs.declared.Found.TheVariants.{Slow, Low, High, One}
 use Rattle.filter.specs.Midpoints.{narrowed_pattern}
-use Rattle.filter.specs.Plain.{plain_log2p1, part_of, rest_of, plain_pattern, margin, switch_gap, near_midpoint, fast_or, rounded_pattern, clear_of_switches, middle_found, low_edge, slow_from, slow_to, low_found, high_edge, high_found, tiny_found, is_tiny, plain_found}
+use Rattle.filter.specs.Plain.{plain_log2p1, part_of, rest_of, plain_pattern, fast_margin, fast_switch_gap, near_midpoint, fast_or, rounded_pattern, clear_of_switches, middle_found, plain_lower_edge, slow_from, slow_to, low_found, plain_upper_edge, high_found, tiny_found, is_tiny_t, plain_found}
 use Rattle.filter.specs.Right.{Inside, Passed, Right}
 use Rattle.filter.proofs.Limits.{middle_bound}
 use Rattle.filter.proofs.Power.{PowerBeside, power_beside}
@@ -27,7 +28,7 @@ use Rattle.filter.proofs.Middle.{not_small, whole_within, switch_bounds}
 use Rattle.filter.proofs.Logarithm.{log_beside}
 use Rattle.filter.proofs.Times.{single, TimesBeside, times_beside}
 use Rattle.filter.proofs.Near.{near_right}
-use Rattle.filter.proofs.Edges.{not_low, not_high, not_tiny, low_edge_lem, high_edge_lem, at_one, below_normals}
+use Rattle.filter.proofs.Edges.{not_low, not_high, not_tiny, lower_edge_lem, upper_edge_lem, at_one, below_normals}
 
 -- ---- between the edges: t' from 2^-300 to 124 in size
 module _ (t t' : Float) (b : TimesBeside t t') (m : Bound S (124 * 2 ^ 53) t') (some : 2 ^ 774 ≤ mag t') where
@@ -81,7 +82,7 @@ module _ (t t' : Float) (b : TimesBeside t t') (m : Bound S (124 * 2 ^ 53) t') (
       large p n q k x y h i j = at_half p n q k (2 ^ 773) x y (le_trans (lit≤ tt) h) (half (p + k) (n + q) (q + k) i) (half (n + q) (p + k) (q + k) j)
 
   -- clear of the switches and of the midpoints
-  module _ (clear : clear_of_switches switch_gap (part_of t') (rest_of t') ≡ true) (apart : 2 * margin < (scaled (plain_pattern t') (to_signed 63 (nearest_whole t')) + (0x10000000 + margin)) % 0x20000000) where
+  module _ (clear : clear_of_switches fast_switch_gap (part_of t') (rest_of t') ≡ true) (apart : 2 * fast_margin < (scaled (plain_pattern t') (to_signed 63 (nearest_whole t')) + (0x10000000 + fast_margin)) % 0x20000000) where
     powers : PowerBeside t t'
     powers =
         let o = switch_bounds t' m clear in
@@ -101,9 +102,9 @@ module _ (t t' : Float) (b : TimesBeside t t') (m : Bound S (124 * 2 ^ 53) t') (
 
   middle_right : Right (middle_found t') t
   unfolding middle_found rounded_pattern narrowed_pattern
-  middle_right = go (clear_of_switches switch_gap (part_of t') (rest_of t')) refl (ltb (2 * margin) ((scaled (plain_pattern t') (to_signed 63 (nearest_whole t')) + (0x10000000 + margin)) % 0x20000000)) refl
+  middle_right = go (clear_of_switches fast_switch_gap (part_of t') (rest_of t')) refl (ltb (2 * fast_margin) ((scaled (plain_pattern t') (to_signed 63 (nearest_whole t')) + (0x10000000 + fast_margin)) % 0x20000000)) refl
     where
-      go : (x : Bool) → clear_of_switches switch_gap (part_of t') (rest_of t') ≡ x → (y : Bool) → ltb (2 * margin) ((scaled (plain_pattern t') (to_signed 63 (nearest_whole t')) + (0x10000000 + margin)) % 0x20000000) ≡ y
+      go : (x : Bool) → clear_of_switches fast_switch_gap (part_of t') (rest_of t') ≡ x → (y : Bool) → ltb (2 * fast_margin) ((scaled (plain_pattern t') (to_signed 63 (nearest_whole t')) + (0x10000000 + fast_margin)) % 0x20000000) ≡ y
           → Right (cond x (fast_or (cond y (Some (of_bits binary32 ((scaled (plain_pattern t') (to_signed 63 (nearest_whole t')) + 0x10000000) / 0x20000000 - 0x1c0000000))) None) (near_midpoint t' (scaled (plain_pattern t') (to_signed 63 (nearest_whole t'))))) None) t
       go true e true f = passed e (ltb-true _ _ f)
       go true e false f = near_right signs.sign t t' signs.has signs.plain_has b inside
@@ -112,20 +113,20 @@ module _ (t t' : Float) (b : TimesBeside t t') (m : Bound S (124 * 2 ^ 53) t') (
 -- ---- all of it
 low_right : {t t' : Float} → TimesBeside t t' → Right (low_found t') t
 unfolding low_found
-low_right {t} {t'} b = go (le t' low_edge) refl (le t' slow_to) refl (le slow_from t') refl
+low_right {t} {t'} b = go (le t' plain_lower_edge) refl (le t' slow_to) refl (le slow_from t') refl
   where
-    go : (x : Bool) → le t' low_edge ≡ x → (y : Bool) → le t' slow_to ≡ y → (z : Bool) → le slow_from t' ≡ z → Right (cond x (Some Low) (cond (y && z) (Some Slow) None)) t
-    go true e y f z g = low_edge_lem b e
+    go : (x : Bool) → le t' plain_lower_edge ≡ x → (y : Bool) → le t' slow_to ≡ y → (z : Bool) → le slow_from t' ≡ z → Right (cond x (Some Low) (cond (y && z) (Some Slow) None)) t
+    go true e y f z g = lower_edge_lem b e
     go false e true f true g = below_normals b f g
     go false e true f false g = tt
     go false e false f z g = tt
 
 high_right : {t t' : Float} → TimesBeside t t' → Right (high_found t') t
 unfolding high_found
-high_right {t} {t'} b = go (le high_edge t') refl
+high_right {t} {t'} b = go (le plain_upper_edge t') refl
   where
-    go : (x : Bool) → le high_edge t' ≡ x → Right (cond x (Some High) None) t
-    go true e = high_edge_lem b e
+    go : (x : Bool) → le plain_upper_edge t' ≡ x → Right (cond x (Some High) None) t
+    go true e = upper_edge_lem b e
     go false e = tt
 
 tiny_right : {t t' : Float} → TimesBeside t t' → Right (tiny_found t') t
@@ -138,7 +139,7 @@ tiny_right {t} {t'} b = go (eq t' Special.zero) refl
 
 pub plain_right : {t t' : Float} → TimesBeside t t' → Right (plain_found t') t
 unfolding plain_found
-plain_right {t} {t'} b = go (lt t' (fin true 31 (pos 2))) refl (lt (fin false 31 (pos 2)) t') refl (is_tiny t') refl
+plain_right {t} {t'} b = go (lt t' (fin true 31 (pos 2))) refl (lt (fin false 31 (pos 2)) t') refl (is_tiny_t t') refl
   where
     low : Number (fin true 31 (pos 2))
     low = unfold fits in record { held = tt; plain = tt }
@@ -146,7 +147,7 @@ plain_right {t} {t'} b = go (lt t' (fin true 31 (pos 2))) refl (lt (fin false 31
     high : Number (fin false 31 (pos 2))
     high = unfold fits in record { held = tt; plain = tt }
 
-    go : (x : Bool) → lt t' (fin true 31 (pos 2)) ≡ x → (y : Bool) → lt (fin false 31 (pos 2)) t' ≡ y → (z : Bool) → is_tiny t' ≡ z
+    go : (x : Bool) → lt t' (fin true 31 (pos 2)) ≡ x → (y : Bool) → lt (fin false 31 (pos 2)) t' ≡ y → (z : Bool) → is_tiny_t t' ≡ z
         → Right (cond x (low_found t') (cond y (high_found t') (cond z (tiny_found t') (middle_found t')))) t
     go true e y f z g = low_right b
     go false e true f z g = high_right b
@@ -155,8 +156,12 @@ plain_right {t} {t'} b = go (lt t' (fin true 31 (pos 2))) refl (lt (fin false 31
         middle_right t t' b (middle_bound b.beside (le_true low b.beside (units_of_not_lt b.beside low e)) (le_true b.beside high (units_of_not_lt high b.beside f))) (not_small b.beside g)
 
 -- ---- what proves `filtered`
-beside : (x y : Float) → Tabled x y → TimesBeside (compoundf_log2p1_fast x ⊗ y) (plain_log2p1 x ⊗ y)
+pub beside : (x y : Float) → Tabled x y → TimesBeside (compoundf_log2p1_fast x ⊗ y) (plain_log2p1 x ⊗ y)
 beside x y a = times_beside (log_beside x a.base.x_fits a.base.x_finite a.base.x_above) (single y a.y_fits a.y_finite)
+
+-- t = l×y is no NaN
+pub t_number : (x y : Float) → Tabled x y → T (not (is_nan (compoundf_log2p1_fast x ⊗ y)))
+t_number x y a = finite_number _ (beside x y a).number.plain
 
 pub finite_product : (x y : Float) → Tabled x y → T (finite (plain_log2p1 x ⊗ y))
 finite_product x y a = (beside x y a).beside.plain

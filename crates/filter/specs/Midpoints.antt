@@ -9,4 +9,5 @@ clear_of_midpoints margin w = nat_lt (2 * margin) ((w + (0x10000000 + margin)) %
 
 -- where it is, w rounded to 24 digits
 unfoldable pub narrowed_pattern : ℕ → ℕ → Option Float
-narrowed_pattern margin w = cond (clear_of_midpoints margin w) (Some (from_bits binary32 ((w + 0x10000000) / 0x20000000 - 0x1c0000000))) None
+narrowed_pattern margin w =
+    cond (clear_of_midpoints margin w) (Some (from_bits binary32 ((w + 0x10000000) / 0x20000000 - 0x1c0000000))) None

@@ -49,16 +49,20 @@ plain_pattern t = power_at (power_index (part_of t)) (rest_of t)
 
 -- ---- what is found, from t
 -- a pattern that is further than this from every midpoint of two f32s settles the answer
-abbrev pub margin : ℕ
-margin = 2 ^ 20 + 2 ^ 15
+abbrev pub fast_margin : ℕ
+fast_margin = 2 ^ 20 + 2 ^ 15
 
 -- one that is at most as far as this from a midpoint, and next to 1, settles that the rounding test fails
 abbrev pub nearness : ℕ
 nearness = 2 ^ 11
 
--- |t| is at most 2^-14, and the pattern w is near a midpoint: the rounding test fails; else nothing is sure
+-- 2^-14: the power of a t of at most this size is next to 1
+abbrev pub fast_next_to : Float
+fast_next_to = f64 0x3f10000000000000
+
+-- |t| is at most that, and the pattern w is near a midpoint: the rounding test fails; else nothing is sure
 unfoldable pub near_midpoint : Float → ℕ → Option Found
-near_midpoint t w = cond (within (f64 0x3f10000000000000) t && not (clear_of_midpoints nearness w)) (Some Slow) None
+near_midpoint t w = cond (within fast_next_to t && not (clear_of_midpoints nearness w)) (Some Slow) None
 
 -- the pattern w, scaled: clear of every midpoint, it is rounded to an f32; else it may be near one
 abbrev pub fast_or : Option Float → Option Found → Option Found
@@ -66,7 +70,7 @@ fast_or (Some v) other = Some (Fast v)
 fast_or None other = other
 
 unfoldable pub rounded_pattern : Float → ℕ → Option Found
-rounded_pattern t w = fast_or (narrowed_pattern margin w) (near_midpoint t w)
+rounded_pattern t w = fast_or (narrowed_pattern fast_margin w) (near_midpoint t w)
 
 -- whether k and the index stay the same within `gap`: k switches where |part| is 1/2, and the index where |rest| is
 -- 1/64
@@ -83,16 +87,19 @@ abbrev pub clear_of_switches : Float → Float → Float → Bool
 clear_of_switches gap part rest = within (part_end gap) part && clear_of_index gap rest
 
 -- 2^-30: further than this from a switch, the fast path's own t is on the same side of it
-abbrev pub switch_gap : Float
-switch_gap = f64 0x3e10000000000000
+abbrev pub fast_switch_gap : Float
+fast_switch_gap = f64 0x3e10000000000000
 
--- t from -124 to 124
+-- t from -124 to 124, clear of the switches: by the pattern of 2^t, scaled by 2^k
 unfoldable pub middle_found : Float → Option Found
-middle_found t = cond (clear_of_switches switch_gap (part_of t) (rest_of t)) (rounded_pattern t (scaled (plain_pattern t) (to_signed 63 (nearest_whole t)))) None
+middle_found t =
+    let k = to_signed 63 (nearest_whole t) in
+    cond (clear_of_switches fast_switch_gap (part_of t) (rest_of t)) (rounded_pattern t (scaled (plain_pattern t) k))
+    None
 
 -- t below -124: at most -151 it is at the lower edge, and from -149.5 to -128 the value is below the normal f32s
-abbrev pub low_edge : Float
-low_edge = fin true 151 (pos 0)
+abbrev pub plain_lower_edge : Float
+plain_lower_edge = fin true 151 (pos 0)
 
 abbrev pub slow_from : Float
 slow_from = fin true 299 (negsuc 0)
@@ -104,31 +111,35 @@ abbrev pub is_below_normal : Float → Bool
 is_below_normal t = le t slow_to && le slow_from t
 
 unfoldable pub low_found : Float → Option Found
-low_found t = cond (le t low_edge) (Some Low) (cond (is_below_normal t) (Some Slow) None)
+low_found t = cond (le t plain_lower_edge) (Some Low) (cond (is_below_normal t) (Some Slow) None)
 
 -- t above 124: at least 129 it is at the upper edge
-abbrev pub high_edge : Float
-high_edge = fin false 129 (pos 0)
+abbrev pub plain_upper_edge : Float
+plain_upper_edge = fin false 129 (pos 0)
 
 unfoldable pub high_found : Float → Option Found
-high_found t = cond (le high_edge t) (Some High) None
-
--- |t| below 2^-300: 0
-unfoldable pub tiny_found : Float → Option Found
-tiny_found t = cond (eq t zero) (Some One) None
+high_found t = cond (le plain_upper_edge t) (Some High) None
 
 -- whether |t| is below 2^-300
-unfoldable pub is_tiny : Float → Bool
-is_tiny t = lt (neg (f64 0x2d30000000000000)) t && lt t (f64 0x2d30000000000000)
+unfoldable pub is_tiny_t : Float → Bool
+is_tiny_t t = lt (neg (f64 0x2d30000000000000)) t && lt t (f64 0x2d30000000000000)
+
+-- such a t: at 0 it is at the edge of 1
+unfoldable pub tiny_found : Float → Option Found
+tiny_found t = cond (eq t zero) (Some One) None
 
 -- t is from -124 to 124, and not tiny
 pub record Middle (t : Float) : Type 0 where
   pub least : T (le (fin true 31 (pos 2)) t)
   pub most : T (le t (fin false 31 (pos 2)))
-  pub apart : is_tiny t ≡ false
+  pub apart : is_tiny_t t ≡ false
 
 -- all of them
 unfoldable pub plain_found : Float → Option Found
 plain_found t =
     cond (lt t (fin true 31 (pos 2))) (low_found t)
-    (cond (lt (fin false 31 (pos 2)) t) (high_found t) (cond (is_tiny t) (tiny_found t) (middle_found t)))
+    (cond (lt (fin false 31 (pos 2)) t) (high_found t) (cond (is_tiny_t t) (tiny_found t) (middle_found t)))
+
+-- what is found of x and y: from the plain t
+abbrev pub filtered : Float → Float → Option Found
+filtered x y = plain_found (plain_log2p1 x ⊗ y)

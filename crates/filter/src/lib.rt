@@ -26,18 +26,18 @@ pub mod plain;
 pub mod split;
 
 // A pattern that is further than this from every midpoint of two f32s settles the answer.
-const MARGIN: u64 = 0x10_8000;
+const FAST_MARGIN: u64 = 0x10_8000;
 
 // One that is at most as far as this from a midpoint, and next to 1, settles that the rounding test
 // fails.
 const NEARNESS: u64 = 0x800;
 
 // 2^-14: the power of a t of at most this size is next to 1.
-const NEXT_TO: f64 = f64::from_bits(0x3f10_0000_0000_0000);
+const FAST_NEXT_TO: f64 = f64::from_bits(0x3f10_0000_0000_0000);
 
 // 2^-30: further than this from a switch of k or of the index, the fast path's own t is on the same side
 // of it.
-const SWITCH_GAP: f64 = f64::from_bits(0x3e10_0000_0000_0000);
+const FAST_SWITCH_GAP: f64 = f64::from_bits(0x3e10_0000_0000_0000);
 
 // 2^-300
 const TINY: f64 = f64::from_bits(0x2d30_0000_0000_0000);
@@ -47,16 +47,16 @@ const MIDDLE_FROM: f64 = -124.0;
 
 const MIDDLE_TO: f64 = 124.0;
 
-// At most this, t is at the lower edge.
-const LOW_EDGE: f64 = -151.0;
+// At most this, the plain t says that t is at the lower edge.
+const PLAIN_LOWER_EDGE: f64 = -151.0;
 
 // From and to these, the value is below the normal f32s.
 const SLOW_FROM: f64 = -149.5;
 
 const SLOW_TO: f64 = -128.0;
 
-// At least this, t is at the upper edge.
-const HIGH_EDGE: f64 = 129.0;
+// At least this, it says that t is at the upper edge.
+const PLAIN_UPPER_EDGE: f64 = 129.0;
 
 // What is found of a pair: the fast answer; that the fast path fails its tests, so that the answer is
 // the slow one; that t is at the lower edge, at the upper edge, or so small that the answer is 1.
@@ -79,7 +79,7 @@ fn near_midpoint(t: f64, w: u64) -> Option<Found>
     requires { w < 1148 * 2 ^ 52 }
     ensures { result ≡ spec.near_midpoint t w }
 {
-    (is_within(t, NEXT_TO) & !clear_of_midpoints(w, NEARNESS)).then_some(Found::Slow)
+    (is_within(t, FAST_NEXT_TO) & !clear_of_midpoints(w, NEARNESS)).then_some(Found::Slow)
 }
 
 // The answer of the scaled pattern w, where no midpoint of two f32s is within 2^20 + 2^15 of it.
@@ -89,7 +89,7 @@ fn rounded_pattern(t: f64, w: u64) -> Option<Found>
     requires w_below { w < 1148 * 2 ^ 52 }
     ensures { result ≡ spec.rounded_pattern t w }
 {
-    match narrowed_pattern(w, MARGIN) {
+    match narrowed_pattern(w, FAST_MARGIN) {
         Some(v) => Some(Found::Fast(v)),
         None => near_midpoint(t, w),
     }
@@ -97,12 +97,12 @@ fn rounded_pattern(t: f64, w: u64) -> Option<Found>
 
 // For t from -124 to 124 that is not tiny, in two steps: the nearest whole number, and the nearest 32nd
 // to what is left.
-#[tactic(auto, using(crate::proofs::Middle::two_steps), unfolding(crate::specs::Plain::middle_found, crate::specs::Plain::plain_pattern))]
+#[tactic(auto, using(crate::proofs::Middle::two_steps), unfolding(crate::specs::Plain::middle_found))]
 fn in_two_steps(t: f64) -> Option<Found>
     requires { spec.Middle t }
     ensures { result ≡ spec.middle_found t }
 {
-    rounded_pattern(t, Split::of(t).pattern(SWITCH_GAP)?)
+    rounded_pattern(t, Split::of(t).pattern(FAST_SWITCH_GAP)?)
 }
 
 // The same in one step, where the nearest 32nd is not halfway between two whole numbers and no switch of
@@ -118,7 +118,7 @@ fn middle_found(t: f64) -> Option<Found>
     // with 16 more they are 32 * k and the index
     let n = f64::to_bits(sum) + 16;
     let i = n % 32;
-    if (i > 0) & clear_of_index(rest, SWITCH_GAP) {
+    if (i > 0) & clear_of_index(rest, FAST_SWITCH_GAP) {
         let power = power::<Plain>(i, rest);
         let field = n / 32 % 0x1000 * 0x10_0000_0000_0000;
         rounded_pattern(t, power.wrapping_add(field))
@@ -140,7 +140,7 @@ pub fn is_below_normal(t: f64) -> bool
 fn low_found(t: f64) -> Option<Found>
     ensures { result ≡ spec.low_found t }
 {
-    if t <= LOW_EDGE {
+    if t <= PLAIN_LOWER_EDGE {
         Some(Found::Low)
     } else {
         is_below_normal(t).then_some(Found::Slow)
@@ -152,7 +152,7 @@ fn low_found(t: f64) -> Option<Found>
 fn high_found(t: f64) -> Option<Found>
     ensures { result ≡ spec.high_found t }
 {
-    (t >= HIGH_EDGE).then_some(Found::High)
+    (t >= PLAIN_UPPER_EDGE).then_some(Found::High)
 }
 
 // For |t| below 2^-300.
@@ -164,9 +164,9 @@ fn tiny_found(t: f64) -> Option<Found>
 }
 
 // Whether |t| is below 2^-300.
-#[tactic(auto, unfolding(crate::specs::Plain::is_tiny))]
-fn is_tiny(t: f64) -> bool
-    ensures { result ≡ spec.is_tiny t }
+#[tactic(auto, unfolding(crate::specs::Plain::is_tiny_t))]
+fn is_tiny_t(t: f64) -> bool
+    ensures { result ≡ spec.is_tiny_t t }
 {
     (t > -TINY) & (t < TINY)
 }
@@ -181,17 +181,18 @@ fn plain_found(t: f64) -> Option<Found>
         low_found(t)
     } else if t > MIDDLE_TO {
         high_found(t)
-    } else if is_tiny(t) {
+    } else if is_tiny_t(t) {
         tiny_found(t)
     } else {
         middle_found(t)
     }
 }
 
-// What is found of x and y.
+// What is found of x and y: the definition's, and right of the fast path's own t.
 #[tactic(auto, using(crate::proofs::Settled::filtered))]
 pub fn filtered(pair: Operands) -> Option<Found>
-    ensures { Right result (compoundf_log2p1_fast pair.x ⊗ pair.y) }
+    ensures found { result ≡ spec.filtered pair.x pair.y }
+    ensures right { Right result (compoundf_log2p1_fast pair.x ⊗ pair.y) }
 {
     let l = log2p1::<Plain>(pair.x);
     plain_found(l * pair.y)

@@ -1,9 +1,9 @@
 // t as a whole number, a number of 32nds, and what is left.
-ghost use Rattle.std.specs.Prelude.{◌≡◌, ◌<◌, true, false, cond, T, pos};
-ghost use Rattle.std.specs.Float.{fin};
+ghost use Rattle.std.specs.Prelude.{◌≡◌, ◌<◌, false, cond, T};
 ghost use Rattle.std.specs.Float.Ieee.{eq, lt, to_signed};
 ghost use Rattle.floats.specs.Narrowing.{nearest_whole};
 ghost use Rattle.special.specs.Special.{zero};
+ghost use Rattle.fast_path.specs.Edges.{lower_edge, upper_edge};
 ghost use Rattle.fast_path.specs.Scaling.{scaled};
 ghost use Rattle.fast_path.specs.Fast.{power_index};
 ghost use Rattle.filter.specs.Plain as spec;
@@ -32,8 +32,8 @@ impl Split {
     // Of a t from -150 to 128 that is not 0. No type says so: it would be made for this one call.
     #[tactic(auto, using(crate::proofs::NotZero::split), unfolding(crate::specs::Plain::rest_of))]
     pub fn of(t: f64) -> Split
-        requires t_above { T (lt (fin true 75 (pos 1)) t) }
-        requires t_below { T (lt t (fin false 1 (pos 7))) }
+        requires t_above { T (lt lower_edge t) }
+        requires t_below { T (lt t upper_edge) }
         requires not_zero { eq t zero ≡ false }
         ensures k { result.k ≡ to_signed 63 (nearest_whole t) }
         ensures part { result.part ≡ spec.part_of t }
@@ -60,7 +60,7 @@ impl Split {
     }
 
     // The plain pattern of 2 to the power of what is left of t over k.
-    fn power(self) -> u64
+    fn plain_power(self) -> u64
         ensures { result ≡ spec.power_at self.index self.rest }
     {
         power::<Plain>(self.index, self.rest)
@@ -72,7 +72,7 @@ impl Split {
             (Some (scaled (spec.power_at self.index self.rest) self.k)) None }
     {
         if self.is_clear(gap) {
-            Some(scaled(self.power(), self.k))
+            Some(scaled(self.plain_power(), self.k))
         } else {
             None
         }

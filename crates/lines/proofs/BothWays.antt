@@ -16,7 +16,7 @@ use Rattle.std.proofs.lemmas.Bool.Decides.{Decides-eqb}
 use Rattle.std.proofs.lemmas.List.Sums.{take_while-cons}
 use Rattle.std.proofs.lemmas.List.Folds.{length-prefix_len}
 use Rattle.text.specs.Bytes.{all}
-use Rattle.text.specs.Digits.{places, decimal, hex, is_decimal, is_hex, value}
+use Rattle.text.specs.Digits.{places, decimal, hex, is_decimal, is_hex, digits_value}
 use Rattle.lines.specs.Format.{pair, longest, largest_id, id_key, x_key, y_key, space, line_of, InRange, Format}
 use Rattle.lines.specs.Format.{id_digits, is_d, has_id, after_id, hex_digits, has_hex, has_x, after_x, has_y, read_line}
 use Rattle.std.specs.Prelude.{Result, Ok}
@@ -170,14 +170,14 @@ module _ (key : ℕ) (l : List ℕ) (h : has_hex (key_of key) l ≡ true) where
   h_long : length (hex_digits (key_of key) l) ≡ 8
   h_long = eqb-true (length (hex_digits (key_of key) l)) 8 h_front.1
 
-  h_range : value 16 (hex_digits (key_of key) l) < 2 ^ 32
+  h_range : digits_value 16 (hex_digits (key_of key) l) < 2 ^ 32
   h_range = value_below sixteen 8 (hex_digits (key_of key) l) h_long h_tests.1
 
   h_rest : drop 2 l ≡ hex_digits (key_of key) l ++ drop 10 l
   unfolding hex_digits
   h_rest = sym (take-append-drop 8 (drop 2 l)) ∙ ap (λ (m : List ℕ). take 8 (drop 2 l) ++ m) (drop-drop 8 2 l)
 
-  h_shape : l ≡ key ∷ 61 ∷ (hex (value 16 (hex_digits (key_of key) l)) ++ drop 10 l)
+  h_shape : l ≡ key ∷ 61 ∷ (hex (digits_value 16 (hex_digits (key_of key) l)) ++ drop 10 l)
   h_shape =
       starts_split (key_of key) l h_front.0
       ∙ ap (λ (m : List ℕ). key ∷ 61 ∷ m) (rw (hex_value (hex_digits (key_of key) l) h_long h_tests.1) h_rest)
@@ -214,13 +214,13 @@ record Accepted (l : List ℕ) (d x y : ℕ) : Type 0 where
   id : has_id l ≡ true
   x_field : has_x (after_id l) ≡ true
   y_field : has_y (after_x (after_id l)) ≡ true
-  d_is : value 10 (id_digits l) ≡ d
-  x_is : value 16 (hex_digits x_key (after_id l)) ≡ x
-  y_is : value 16 (hex_digits y_key (after_x (after_id l))) ≡ y
+  d_is : digits_value 10 (id_digits l) ≡ d
+  x_is : digits_value 16 (hex_digits x_key (after_id l)) ≡ x
+  y_is : digits_value 16 (hex_digits y_key (after_x (after_id l))) ≡ y
 
 -- of the definition's choice, the only way to a pair
-said : (p q : Pair) → ◌≡◌ {A = Result Pair Refusal} (Ok p) (Ok q) → p ≡ q
-said p q e = cc
+pair_is : (p q : Pair) → ◌≡◌ {A = Result Pair Refusal} (Ok p) (Ok q) → p ≡ q
+pair_is p q e = cc
 
 accepted : (l : List ℕ) (d x y : ℕ) → read_line l ≡ Ok (pair d x y) → Accepted l d x y
 unfolding read_line
@@ -233,7 +233,7 @@ accepted l d x y e = by (ltb longest (length l)) (has_id l) (has_x (after_id l))
     by false true false true p q r s = let f = simp (p, q, r, s) at e in cc
     by false true true false p q r s = let f = simp (p, q, r, s) at e in cc
     by false true true true p q r s =
-        let f = said _ _ (simp (p, q, r, s) at e) in
+        let f = pair_is _ _ (simp (p, q, r, s) at e) in
         record {
           short = p;
           id = q;
@@ -271,7 +271,7 @@ module _ (l : List ℕ) (d x y : ℕ) (a : Accepted l d x y) where
   unfolding after_x
   x_end =
       h_shape 120 (after_id l) x_tests.0
-      ∙ ap (λ (m : List ℕ). 120 ∷ 61 ∷ (hex (value 16 (hex_digits x_key (after_id l))) ++ m)) (spaced (after_id l) 10 x_tests.1 ∙ ap (λ (m : List ℕ). space ∷ m) y_end)
+      ∙ ap (λ (m : List ℕ). 120 ∷ 61 ∷ (hex (digits_value 16 (hex_digits x_key (after_id l))) ++ m)) (spaced (after_id l) 10 x_tests.1 ∙ ap (λ (m : List ℕ). space ∷ m) y_end)
       ∙ ap (λ (n : ℕ). 120 ∷ 61 ∷ (hex n ++ (space ∷ from_y y))) a.x_is
 
   line_is : l ≡ line_of d x y

@@ -11,25 +11,25 @@ use lib.Dec.{eqb, ltb, leb, lit<}
 use lib.ListN.{length, get_or, take, drop, length-drop}
 use Rattle.std.specs.List.{prefix_len, take_while}
 use Rattle.text.specs.Bytes.{all}
-use Rattle.text.specs.Digits.{places, decimal, is_decimal, value, value_from}
+use Rattle.text.specs.Digits.{places, decimal, is_decimal, digits_value, value_from}
 use native.Mathlib.Numerals.{add-one}
 use lib.Seq.{drop-drop}
 use Rattle.std.proofs.lemmas.List.Folds.{length-prefix_len}
-use Rattle.text.proofs.Numerals.{both, ten, low_value, at_least, length_decimal, value_digits, digits_value, value_below, places_positive, below_places, one_place, places_of, no_zero_first, least}
+use Rattle.text.proofs.Numerals.{both, ten, low_value, at_least, length_decimal, value_of_digits, digits_of_value, value_below, places_positive, below_places, one_place, places_of, no_zero_first, least}
 use Rattle.lines.specs.Format.{largest_id, is_d}
 
 -- digits that are a D, and what these are
 pub record D (ds : List ℕ) : Type 0 where
   pub some : 0 < length ds
   pub lead : (length ds ≡ 1) ⊎ (get_or ds 0 0 ≡ 48 → ⊥)
-  pub small : value 10 ds ≤ largest_id
+  pub small : digits_value 10 ds ≤ largest_id
 
 pub is_d_lem : (ds : List ℕ) → is_d ds ≡ true → D ds
 unfolding is_d
 is_d_lem ds h =
-    let outer = both (ltb 0 (length ds) && (eqb (length ds) 1 || not (eqb (get_or ds 0 0) 48))) (leb (value 10 ds) largest_id) h in
+    let outer = both (ltb 0 (length ds) && (eqb (length ds) 1 || not (eqb (get_or ds 0 0) 48))) (leb (digits_value 10 ds) largest_id) h in
     let inner = both (ltb 0 (length ds)) (eqb (length ds) 1 || not (eqb (get_or ds 0 0) 48)) outer.0 in
-    record { some = ltb-true 0 (length ds) inner.0; lead = go (eqb (length ds) 1) refl inner.1; small = leb-true (value 10 ds) largest_id outer.1 }
+    record { some = ltb-true 0 (length ds) inner.0; lead = go (eqb (length ds) 1) refl inner.1; small = leb-true (digits_value 10 ds) largest_id outer.1 }
   where
     go : (t : Bool) → eqb (length ds) 1 ≡ t → (t || not (eqb (get_or ds 0 0) 48)) ≡ true → (length ds ≡ 1) ⊎ (get_or ds 0 0 ≡ 48 → ⊥)
     go true e p = inl (eqb-true (length ds) 1 e)
@@ -37,7 +37,7 @@ is_d_lem ds h =
 
 pub d_is : (ds : List ℕ) → D ds → is_d ds ≡ true
 unfolding is_d
-d_is ds d = rw (lt-ltb 0 (length ds) d.some, le-leb (value 10 ds) largest_id d.small) (rw (go d.lead) refl)
+d_is ds d = rw (lt-ltb 0 (length ds) d.some, le-leb (digits_value 10 ds) largest_id d.small) (rw (go d.lead) refl)
   where
     go : (length ds ≡ 1) ⊎ (get_or ds 0 0 ≡ 48 → ⊥) → (eqb (length ds) 1 || not (eqb (get_or ds 0 0) 48)) ≡ true
     go (inl e) = rw (eq-eqb (length ds) 1 e) refl
@@ -63,11 +63,11 @@ module _ (ds : List ℕ) where
   unfolding is_d
   zero_first h k = rw (lt-ltb 0 (length ds) (omega arith), ne_eqb (length ds) 1 (λ e. omega arith), eq-eqb (get_or ds 0 0) 48 k) refl
 
-  pub one_digit : length ds ≡ 1 → is_d ds ≡ leb (value 10 ds) largest_id
+  pub one_digit : length ds ≡ 1 → is_d ds ≡ leb (digits_value 10 ds) largest_id
   unfolding is_d
   one_digit h = rw (lt-ltb 0 (length ds) (omega arith), eq-eqb (length ds) 1 h) refl
 
-  pub more_digits : 2 ≤ length ds → (get_or ds 0 0 ≡ 48 → ⊥) → is_d ds ≡ leb (value 10 ds) largest_id
+  pub more_digits : 2 ≤ length ds → (get_or ds 0 0 ≡ 48 → ⊥) → is_d ds ≡ leb (digits_value 10 ds) largest_id
   unfolding is_d
   more_digits h k = rw (lt-ltb 0 (length ds) (omega arith), ne_eqb (get_or ds 0 0) 48 k, or-true (eqb (length ds) 1)) refl
 
@@ -95,20 +95,20 @@ front_none (b ∷ l) h = go (leb 48 b) (leb b 57) refl refl
 
 -- Some digits of l have been read, which say n, and `rest` follows them.
 pub record Read (l : List ℕ) (n : ℕ) (rest : List ℕ) : Type 0 where
-  pub says : value_from 10 n (front rest) ≡ value 10 (front l)
+  pub says : value_from 10 n (front rest) ≡ digits_value 10 (front l)
   pub follows : drop (length (front rest)) rest ≡ drop (length (front l)) l
   pub many : length rest + length (front l) ≡ length l + length (front rest)
   pub within : length rest ≤ length l
   pub small : n ≤ largest_id
 
 pub none_read : (l : List ℕ) → Read l 0 l
-unfolding value
+unfolding digits_value
 none_read l = record { says = refl; follows = refl; many = refl; within = omega arith; small = omega arith }
 
 module _ (l : List ℕ) (n : ℕ) (rest : List ℕ) (r : Read l n rest) where
   -- one more
   module _ (h : 1 ≤ length rest) (lo : 48 ≤ get_or rest 0 0) (hi : get_or rest 0 0 ≤ 57) where
-    next_says : value_from 10 (n * 10 + (get_or rest 0 0 - 48)) (front (drop 1 rest)) ≡ value 10 (front l)
+    next_says : value_from 10 (n * 10 + (get_or rest 0 0 - 48)) (front (drop 1 rest)) ≡ digits_value 10 (front l)
     unfolding value_from
     next_says = rw (← low_value (get_or rest 0 0) hi) (sym (ap (value_from 10 n) (front_digit rest h lo hi)) ∙ r.says)
 
@@ -124,12 +124,12 @@ module _ (l : List ℕ) (n : ℕ) (rest : List ℕ) (r : Read l n rest) where
     pub too_large : largest_id < n * 10 + (get_or rest 0 0 - 48) → is_d (front l) ≡ false
     unfolding is_d
     too_large k =
-        let v : largest_id < value 10 (front l) = omega (arith, k, next_says, at_least (n * 10 + (get_or rest 0 0 - 48)) (front (drop 1 rest))) in
-        rw (lt-leb (value 10 (front l)) largest_id v) (and-false _)
+        let v : largest_id < digits_value 10 (front l) = omega (arith, k, next_says, at_least (n * 10 + (get_or rest 0 0 - 48)) (front (drop 1 rest))) in
+        rw (lt-leb (digits_value 10 (front l)) largest_id v) (and-false _)
 
   -- no more
   module _ (h : 1 ≤ length rest → 48 ≤ get_or rest 0 0 → get_or rest 0 0 ≤ 57 → ⊥) where
-    pub all_says : value 10 (front l) ≡ n
+    pub all_says : digits_value 10 (front l) ≡ n
     unfolding value_from
     all_says = sym r.says ∙ ap (value_from 10 n) (front_none rest h)
 
@@ -140,9 +140,9 @@ module _ (l : List ℕ) (n : ℕ) (rest : List ℕ) (r : Read l n rest) where
     all_digits = let e : length l - length rest ≡ length (front l) = omega (arith, r.many, ap length (front_none rest h)) in rw (e, length-prefix_len is_decimal l) refl
 
 -- the decimal of an id is a D with its value
-pub value_decimal : (d : ℕ) → d ≤ largest_id → value 10 (decimal d) ≡ d
+pub value_decimal : (d : ℕ) → d ≤ largest_id → digits_value 10 (decimal d) ≡ d
 unfolding decimal
-value_decimal d h = value_digits ten (places 9 d) d (below_places 9 d (omega arith))
+value_decimal d h = value_of_digits ten (places 9 d) d (below_places 9 d (omega arith))
 
 pub decimal_is_d : (d : ℕ) → d ≤ largest_id → is_d (decimal d) ≡ true
 unfolding decimal places
@@ -155,16 +155,16 @@ decimal_is_d d h =
     go false e = inr (no_zero_first 9 d (omega (arith, ltb-false d 10 e)) (omega arith))
 
 -- and a D is the decimal of its value
-pub decimal_value : (ds : List ℕ) → D ds → all is_decimal ds ≡ true → decimal (value 10 ds) ≡ ds
+pub decimal_value : (ds : List ℕ) → D ds → all is_decimal ds ≡ true → decimal (digits_value 10 ds) ≡ ds
 unfolding decimal
-decimal_value ds d a = rw (many (length ds - 1) (omega (arith, d.some))) (digits_value ten (length ds) ds refl a)
+decimal_value ds d a = rw (many (length ds - 1) (omega (arith, d.some))) (digits_of_value ten (length ds) ds refl a)
   where
     -- an id has ten digits at most
     few : (k : ℕ) → 10 ^ k ≤ largest_id → k < 10
     few k h = lt_of_not-le (λ e. omega (arith, pow-le-pow_right {n = 10} (lit< tt) e))
 
-    many : (k : ℕ) → length ds ≡ suc k → places 9 (value 10 ds) ≡ length ds
-    many zero h = one_place 9 (value 10 ds) (value_below ten 1 ds h a) ∙ sym h
+    many : (k : ℕ) → length ds ≡ suc k → places 9 (digits_value 10 ds) ≡ length ds
+    many zero h = one_place 9 (digits_value 10 ds) (value_below ten 1 ds h a) ∙ sym h
     many (suc k) h =
         let low = least (suc k) ds h a (⊎_elim (λ e. absurd (omega arith)) (λ f. f) d.lead) in
-        places_of 9 k (value 10 ds) (omega (arith, few (suc k) (le_trans low d.small))) low (value_below ten (suc (suc k)) ds h a) ∙ omega arith
+        places_of 9 k (digits_value 10 ds) (omega (arith, few (suc k) (le_trans low d.small))) low (value_below ten (suc (suc k)) ds h a) ∙ omega arith

@@ -12,7 +12,7 @@ use lib.Pointwise.{pointwise}
 use Rattle.std.specs.List.{starts_with, take_while}
 use Rattle.std.proofs.lemmas.Cmp.{nat_list_eq_equiv}
 use Rattle.text.specs.Bytes.{all}
-use Rattle.text.specs.Digits.{is_hex, is_decimal, value}
+use Rattle.text.specs.Digits.{is_hex, is_decimal, digits_value}
 use Rattle.std.specs.Prelude.{Ok, Err}
 use Rattle.text.proofs.Numerals.{both}
 use Rattle.lines.specs.declared.Refusal.TheVariants.{TooLong, NoId, NoX, NoY}
@@ -23,8 +23,8 @@ pub starts : (front l : List ℕ) → starts_with eqb l front ≡ pointwise eqb 
 starts front l = nat_list_eq_equiv.symm front (take (length front) l)
 
 -- a byte that is not 0 is stripped where it stands at a place
-pub stands : (l : List ℕ) (at b : ℕ) → 0 < b → eqb (get_or l at 0) b ≡ pointwise eqb (take 1 (drop at l)) (b ∷ [])
-stands l at b h = go (ltb at (length l)) refl
+pub byte_at : (l : List ℕ) (at b : ℕ) → 0 < b → eqb (get_or l at 0) b ≡ pointwise eqb (take 1 (drop at l)) (b ∷ [])
+byte_at l at b h = go (ltb at (length l)) refl
   where
     go : (t : Bool) → ltb at (length l) ≡ t → eqb (get_or l at 0) b ≡ pointwise eqb (take 1 (drop at l)) (b ∷ [])
     go true k = rw (drop-cons l at 0 (ltb-true at (length l) k)) (sym (and-true (eqb (get_or l at 0) b)))
@@ -48,9 +48,9 @@ module _ (key l : List ℕ) where
       unfolding has_hex hex_digits
       no_h h = rw (← e, ← d, h) (and-false _)
 
-      pub h_stands : pointwise eqb (take (length key) l) key ≡ true → 8 ≤ length rest → all is_hex digits ≡ true → has_hex key l ≡ true
+      pub h_found : pointwise eqb (take (length key) l) key ≡ true → 8 ≤ length rest → all is_hex digits ≡ true → has_hex key l ≡ true
       unfolding has_hex hex_digits
-      h_stands k n h =
+      h_found k n h =
           let t : length (take 8 rest) ≡ 8 = omega (arith, length-take 8 rest) in
           rw (starts key l, k, ← e, ← d, h, d, t) refl
 
@@ -61,12 +61,12 @@ module _ (key l : List ℕ) where
     pub after_h : (after : List ℕ) → after ≡ drop 8 rest → after ≡ drop (length key + 8) l
     after_h after a = rw (a, e) (drop-drop 8 (length key) l)
 
-pub ruleset hex_steps = (no_key, too_few, no_h, h_stands, digits_are, after_h)
+pub ruleset hex_steps = (no_key, too_few, no_h, h_found, digits_are, after_h)
 
 -- a space that is stripped
 module _ (l : List ℕ) (at : ℕ) (rest : List ℕ) (e : rest ≡ drop at l) where
   spaced : eqb (get_or l at 0) 32 ≡ pointwise eqb (take 1 rest) (32 ∷ [])
-  spaced = rw e (stands l at 32 (lit< tt))
+  spaced = rw e (byte_at l at 32 (lit< tt))
 
 -- x
 module _ (l : List ℕ) where
@@ -79,15 +79,15 @@ module _ (l : List ℕ) where
     unfolding has_x
     no_space h = rw (spaced l 10 rest e, h) (and-false (has_hex x_key l))
 
-    pub x_stands : has_hex x_key l ≡ true → pointwise eqb (take 1 rest) (32 ∷ []) ≡ true → has_x l ≡ true
+    pub x_found : has_hex x_key l ≡ true → pointwise eqb (take 1 rest) (32 ∷ []) ≡ true → has_x l ≡ true
     unfolding has_x
-    x_stands f h = rw (spaced l 10 rest e, h, f) refl
+    x_found f h = rw (spaced l 10 rest e, h, f) refl
 
     pub x_after : (after : List ℕ) → after ≡ drop 1 rest → after ≡ after_x l
     unfolding after_x
     x_after after a = rw (a, e) (drop-drop 1 10 l)
 
-pub ruleset x_steps = (no_x, no_space, x_stands, x_after)
+pub ruleset x_steps = (no_x, no_space, x_found, x_after)
 
 -- a field of a key of two bytes has ten bytes
 ten_bytes : (a b : ℕ) (l : List ℕ) → has_hex (a ∷ b ∷ []) l ≡ true → 10 ≤ length l
@@ -104,15 +104,15 @@ module _ (l : List ℕ) where
   no_y h = rw h refl
 
   module _ (rest : List ℕ) (e : rest ≡ drop 10 l) where
-    pub more : 0 < length rest → has_y l ≡ false
+    pub more_follows : 0 < length rest → has_y l ≡ false
     unfolding has_y
-    more h = rw (ne_eqb (length l) 10 (λ k. omega (arith, k, ap length e, length-drop 10 l))) (and-false (has_hex y_key l))
+    more_follows h = rw (ne_eqb (length l) 10 (λ k. omega (arith, k, ap length e, length-drop 10 l))) (and-false (has_hex y_key l))
 
-    pub y_stands : has_hex y_key l ≡ true → length rest ≡ 0 → has_y l ≡ true
+    pub y_found : has_hex y_key l ≡ true → length rest ≡ 0 → has_y l ≡ true
     unfolding has_y
-    y_stands f h = rw (f, eq-eqb (length l) 10 (omega (arith, ap length e, length-drop 10 l, ten_bytes 121 61 l f))) refl
+    y_found f h = rw (f, eq-eqb (length l) 10 (omega (arith, ap length e, length-drop 10 l, ten_bytes 121 61 l f))) refl
 
-pub ruleset y_steps = (no_y, more, y_stands)
+pub ruleset y_steps = (no_y, more_follows, y_found)
 
 -- the id
 module _ (l rest : List ℕ) (e : rest ≡ drop 3 l) where
@@ -137,15 +137,15 @@ module _ (l rest : List ℕ) (e : rest ≡ drop 3 l) where
     unfolding has_id
     no_id_space h = rw (spaced l (3 + length (id_digits l)) end (sym place), h) (and-false _)
 
-    pub id_stands : pointwise eqb (take 3 l) id_key ≡ true → is_d (take_while is_decimal rest) ≡ true → pointwise eqb (take 1 end) (32 ∷ []) ≡ true → has_id l ≡ true
+    pub id_found : pointwise eqb (take 3 l) id_key ≡ true → is_d (take_while is_decimal rest) ≡ true → pointwise eqb (take 1 end) (32 ∷ []) ≡ true → has_id l ≡ true
     unfolding has_id
-    id_stands k h s = rw (spaced l (3 + length (id_digits l)) end (sym place), starts id_key l, k, ← ids_are, h, s) refl
+    id_found k h s = rw (spaced l (3 + length (id_digits l)) end (sym place), starts id_key l, k, ← ids_are, h, s) refl
 
     pub id_after : (after : List ℕ) → after ≡ drop 1 end → after ≡ after_id l
     unfolding after_id
     id_after after a = rw (a, ← place) (drop-drop 1 (3 + length (id_digits l)) l)
 
-pub ruleset id_steps = (no_id_key, ids_are, no_d, no_id_space, id_stands, id_after)
+pub ruleset id_steps = (no_id_key, ids_are, no_d, no_id_space, id_found, id_after)
 
 -- the line
 module _ (l : List ℕ) where
@@ -168,12 +168,12 @@ module _ (l : List ℕ) where
         unfolding read_line
         without_y h = rw (le-ltb longest (length l) short, i, ← e, x, ← f, h) refl
 
-        pub whole : has_y from_y ≡ true → (d a b : ℕ) → d ≡ value 10 (id_digits l) → a ≡ value 16 (hex_digits x_key from_x) → b ≡ value 16 (hex_digits y_key from_y)
+        pub all_found : has_y from_y ≡ true → (d a b : ℕ) → d ≡ digits_value 10 (id_digits l) → a ≡ digits_value 16 (hex_digits x_key from_x) → b ≡ digits_value 16 (hex_digits y_key from_y)
             → Ok (pair d a b) ≡ read_line l
         unfolding read_line
-        whole y d a b p q r = rw (le-ltb longest (length l) short, i, ← e, x, ← f, y, p, q, r) refl
+        all_found y d a b p q r = rw (le-ltb longest (length l) short, i, ← e, x, ← f, y, p, q, r) refl
 
-pub ruleset line_steps = (too_long, without_id, without_x, without_y, whole)
+pub ruleset line_steps = (too_long, without_id, without_x, without_y, all_found)
 
 -- a byte that is not 0 stands only inside a list
 pub inside : (l : List ℕ) (at b : ℕ) → 0 < b → eqb (get_or l at 0) b ≡ true → at < length l

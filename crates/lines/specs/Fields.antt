@@ -4,8 +4,8 @@ use Rattle.std.specs.Prelude.{◌≡◌, ℕ, Bool, true, false, cond, List, Opt
 use Rattle.std.specs.Borrow.{Bor}
 
 -- what a field says, where there is one
-abbrev pub said : Bool → ℕ → Option ℕ
-said has n = cond has (Some n) None
+abbrev pub value_if : Bool → ℕ → Option ℕ
+value_if has n = cond has (Some n) None
 
 -- the same, with what follows the field
 abbrev pub Reads : Bool → ℕ → List ℕ → Option (ℕ × Bor (List ℕ)) → Type 0

@@ -1,9 +1,9 @@
 -- Document 01, "Batch lines and the reader's state": the input line, without its line feed, and the refusals 1 to 4.
-use Rattle.std.specs.Prelude.{ℕ, ◌+◌, ◌≤◌, ◌<◌, ◌^◌, ◌≡◌, Bool, not, ◌&&◌, ◌||◌, cond, List, [], ◌∷◌, ◌++◌, Result}
-use Rattle.std.specs.Prelude.{Ok, Err, eqb, ltb, leb, length, take, drop, get_or}
+use Rattle.std.specs.Prelude.{ℕ, ◌+◌, ◌≤◌, ◌<◌, ◌^◌, ◌≡◌, Bool, not, ◌&&◌, ◌||◌, cond, List, ◌∷◌, ◌++◌, Result, Ok, Err}
+use Rattle.std.specs.Prelude.{codes, eqb, ltb, leb, length, take, drop, get_or}
 use Rattle.std.specs.List.{starts_with, take_while}
 use Rattle.text.specs.Bytes.{all}
-use Rattle.text.specs.Digits.{decimal, hex, is_decimal, is_hex, value}
+use Rattle.text.specs.Digits.{decimal, hex, is_decimal, is_hex, digits_value}
 use Rattle.lines.specs.declared.Pair.{Pair}
 use Rattle.lines.specs.declared.Refusal.{Refusal}
 use Rattle.lines.specs.declared.Refusal.TheVariants.{TooLong, NoId, NoX, NoY}
@@ -18,13 +18,13 @@ largest_id = 65535
 
 -- `id=`, `x=`, `y=`
 abbrev pub id_key : List ℕ
-id_key = 105 ∷ 100 ∷ 61 ∷ []
+id_key = codes "id="
 
 abbrev pub x_key : List ℕ
-x_key = 120 ∷ 61 ∷ []
+x_key = codes "x="
 
 abbrev pub y_key : List ℕ
-y_key = 121 ∷ 61 ∷ []
+y_key = codes "y="
 
 -- a space
 abbrev pub space : ℕ
@@ -38,13 +38,15 @@ line_of d x y = id_key ++ decimal d ++ (space ∷ x_key) ++ hex x ++ (space ∷ 
 unfoldable pub id_digits : List ℕ → List ℕ
 id_digits l = take_while is_decimal (drop (length id_key) l)
 
--- digits that are a D: "0 to 65535 in decimal without leading zeros"
+-- digits that are a D: "0 to 65535 in decimal without leading zeros". 48 is `0`.
 unfoldable pub is_d : List ℕ → Bool
-is_d ds = ltb 0 (length ds) && (eqb (length ds) 1 || not (eqb (get_or ds 0 0) 48)) && leb (value 10 ds) largest_id
+is_d ds =
+    ltb 0 (length ds) && (eqb (length ds) 1 || not (eqb (get_or ds 0 0) 48)) && leb (digits_value 10 ds) largest_id
 
 -- whether a line begins with "`id=`, D, a space"; and what follows these
 unfoldable pub has_id : List ℕ → Bool
-has_id l = starts_with eqb l id_key && is_d (id_digits l) && eqb (get_or l (length id_key + length (id_digits l)) 0) space
+has_id l =
+    starts_with eqb l id_key && is_d (id_digits l) && eqb (get_or l (length id_key + length (id_digits l)) 0) space
 
 unfoldable pub after_id : List ℕ → List ℕ
 after_id l = drop (length id_key + length (id_digits l) + 1) l
@@ -71,6 +73,13 @@ has_y l = has_hex y_key l && eqb (length l) (length y_key + 8)
 abbrev pub pair : ℕ → ℕ → ℕ → Pair
 pair d x y = record { id = d; x = x; y = y }
 
+-- what the three fields of a line say
+abbrev pub pair_said : List ℕ → Pair
+pair_said l =
+    pair (digits_value 10 (id_digits l))
+    (digits_value 16 (hex_digits x_key (after_id l)))
+    (digits_value 16 (hex_digits y_key (after_x (after_id l))))
+
 -- what a line says, or why it is refused: "Lines are tried in the order 1 to 4"
 unfoldable pub read_line : List ℕ → Result Pair Refusal
 read_line l =
@@ -78,14 +87,14 @@ read_line l =
     (cond (not (has_id l)) (Err NoId)
     (cond (not (has_x (after_id l))) (Err NoX)
     (cond (not (has_y (after_x (after_id l)))) (Err NoY)
-    (Ok (pair (value 10 (id_digits l)) (value 16 (hex_digits x_key (after_id l))) (value 16 (hex_digits y_key (after_x (after_id l)))))))))
+    (Ok (pair_said l)))))
 
 -- the numbers of the refusals
-unfoldable pub number : Refusal → ℕ
-number TooLong = 1
-number NoId = 2
-number NoX = 3
-number NoY = 4
+unfoldable pub refusal_number : Refusal → ℕ
+refusal_number TooLong = 1
+refusal_number NoId = 2
+refusal_number NoX = 3
+refusal_number NoY = 4
 
 -- what D and H can say: an id up to the largest, and two patterns of 32 bits
 pub record InRange (d x y : ℕ) : Type 0 where

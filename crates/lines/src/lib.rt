@@ -5,7 +5,7 @@
 mod read;
 
 ghost use Rattle.std.specs.Prelude.{◌≡◌};
-ghost use Rattle.lines.specs.Format.{Format, number};
+ghost use Rattle.lines.specs.Format.{Format, refusal_number};
 
 pub use read::read_line;
 
@@ -34,7 +34,7 @@ pub enum Refusal {
 
 // The number of a refusal.
 impl From<Refusal> for u32 {
-    ghost from_gives = { λ refusal n. n ≡ number refusal };
+    ghost from_gives = { λ refusal n. n ≡ refusal_number refusal };
 
     fn from(refusal: Refusal) -> u32 {
         refusal as u32

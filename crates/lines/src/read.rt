@@ -2,8 +2,8 @@
 // that says and what follows it.
 ghost use Rattle.std.specs.Prelude.{◌≡◌, ◌+◌, length, drop};
 ghost use Rattle.std.specs.List.{take_while};
-ghost use Rattle.text.specs.Digits.{is_decimal, value};
-ghost use Rattle.lines.specs.Fields.{Reads, said};
+ghost use Rattle.text.specs.Digits.{is_decimal, digits_value};
+ghost use Rattle.lines.specs.Fields.{Reads, value_if};
 ghost use Rattle.lines.specs.Format.{x_key, y_key, id_digits, is_d, has_id, after_id, hex_digits, has_hex, has_x};
 ghost use Rattle.lines.specs.Format.{after_x, has_y, read_line};
 
@@ -15,7 +15,8 @@ use text::from_hex;
 // `parse` takes zeros in front and a sign, and no bytes but a `str`.
 #[tactic(auto, using(crate::proofs::Ids::d_steps))]
 fn read_d(line: &[u8]) -> Option<(u32, &[u8])>
-    ensures { let ds = take_while is_decimal line.now in Reads (is_d ds) (value 10 ds) (drop (length ds) line.now) result }
+    ensures { let ds = take_while is_decimal line.now in
+        Reads (is_d ds) (digits_value 10 ds) (drop (length ds) line.now) result }
 {
     let mut n: u64 = 0;
     let mut rest = line;
@@ -36,7 +37,7 @@ fn read_d(line: &[u8]) -> Option<(u32, &[u8])>
 // `id=`, D, a space: D, and what follows these.
 #[tactic(auto, using(crate::proofs::Reading::id_steps))]
 fn read_id(line: &[u8]) -> Option<(u32, &[u8])>
-    ensures { Reads (has_id line.now) (value 10 (id_digits line.now)) (after_id line.now) result }
+    ensures { Reads (has_id line.now) (digits_value 10 (id_digits line.now)) (after_id line.now) result }
 {
     let (id, end) = read_d(line.strip_prefix(b"id=")?)?;
     Some((id, end.strip_prefix(b" ")?))
@@ -45,7 +46,8 @@ fn read_id(line: &[u8]) -> Option<(u32, &[u8])>
 // A key and H: H, and what follows these.
 #[tactic(auto, using(crate::proofs::Reading::hex_steps))]
 fn read_hex<'a>(line: &'a [u8], key: &[u8]) -> Option<(u32, &'a [u8])>
-    ensures { Reads (has_hex key.now line.now) (value 16 (hex_digits key.now line.now)) (drop (length key.now + 8) line.now) result }
+    ensures { Reads (has_hex key.now line.now)
+        (digits_value 16 (hex_digits key.now line.now)) (drop (length key.now + 8) line.now) result }
 {
     let (digits, rest) = line.strip_prefix(key)?.split_first_chunk::<8>()?;
     Some((from_hex(digits)?, rest))
@@ -54,7 +56,7 @@ fn read_hex<'a>(line: &'a [u8], key: &[u8]) -> Option<(u32, &'a [u8])>
 // `x=`, H, a space: H, and what follows these.
 #[tactic(auto, using(crate::proofs::Reading::x_steps))]
 fn read_x(line: &[u8]) -> Option<(u32, &[u8])>
-    ensures { Reads (has_x line.now) (value 16 (hex_digits x_key line.now)) (after_x line.now) result }
+    ensures { Reads (has_x line.now) (digits_value 16 (hex_digits x_key line.now)) (after_x line.now) result }
 {
     let (x, end) = read_hex(line, b"x=")?;
     Some((x, end.strip_prefix(b" ")?))
@@ -63,7 +65,7 @@ fn read_x(line: &[u8]) -> Option<(u32, &[u8])>
 // Just `y=`, H: H.
 #[tactic(auto, using(crate::proofs::Reading::y_steps))]
 fn read_y(line: &[u8]) -> Option<u32>
-    ensures { result ≡ said (has_y line.now) (value 16 (hex_digits y_key line.now)) }
+    ensures { result ≡ value_if (has_y line.now) (digits_value 16 (hex_digits y_key line.now)) }
 {
     let (y, rest) = read_hex(line, b"y=")?;
     if rest.is_empty() { Some(y) } else { None }

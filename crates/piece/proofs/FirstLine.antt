@@ -1,26 +1,25 @@
 -- A piece whose first line carries on the one that is held. Assumes nothing.
 use Rattle.std.proofs.Common.{◌≡◌, ℕ, ◌+◌, ◌≤◌, List, [], ◌∷◌, ◌++◌, length, take, drop, sym, ap, ◌∙◌, arith, length-append, zero-add}
 use lib.Seq.{take_all}
-use Rattle.replies.specs.Reply.{Told, reply_to, written}
+use Rattle.replies.specs.Reply.{Reply, reply_to, answer_line}
 use Rattle.scan.specs.Complete.{lines_from, lines, line_end}
-use Rattle.state.specs.Holding.{kept}
+use Rattle.state.specs.Holding.{as_held}
 use Rattle.state.specs.Carry.{carry_on, carry_end}
-use Rattle.state.specs.Tally.{none, plus}
-use Rattle.piece.specs.Counts.{one, counts}
+use Rattle.state.specs.Tally.{zero_tallies, plus}
+use Rattle.piece.specs.Counts.{tally_of, tallies_of}
 use Rattle.piece.specs.Piece.{replies, joined, answer_lines, FirstReply, NoneEnds}
 use Rattle.std.specs.List.{flat_map}
 use Rattle.scan.proofs.Cutting.{FirstLine, NoLine, no_line, first_line, line_end_within}
-use Rattle.piece.proofs.Replied.{reply_kept}
+use Rattle.piece.proofs.Replied.{reply_as_held}
 
 -- `line` is what is held, `so`, carried on from the start of p up to `end`
 module _ (so p line : List ℕ) (end : ℕ) (e : line ≡ carry_on so p 0) (f : end ≡ carry_end p 0) where
   its_end : end ≡ line_end p
-  unfolding carry_end
   its_end = f ∙ zero-add (line_end p)
 
-  its_held : line ≡ kept (so ++ take end p)
+  its_held : line ≡ as_held (so ++ take end p)
   unfolding carry_on
-  its_held = e ∙ ap (λ (k : ℕ). kept (so ++ take k p)) (sym its_end)
+  its_held = e ∙ ap (λ (k : ℕ). as_held (so ++ take k p)) (sym its_end)
 
   -- it stops within the piece
   pub end_within : end ≤ length p
@@ -32,33 +31,33 @@ module _ (so p line : List ℕ) (end : ℕ) (e : line ≡ carry_on so p 0) (f : 
       let n : NoLine so p = no_line p so (omega (arith, its_end, line_end_within p)) in
       record {
         no_lines = n.no_lines;
-        all_left = its_held ∙ ap (λ (k : List ℕ). kept (so ++ k)) (take_all end p h) ∙ ap kept (sym n.all_rest);
-        no_feeds = n.no_feeds;
+        all_left = its_held ∙ ap (λ (k : List ℕ). as_held (so ++ k)) (take_all end p h) ∙ ap as_held (sym n.all_rest);
+        no_line_feeds = n.no_line_feeds;
       }
 
   -- it stops at a line feed, and `others` follow
-  pub first_reply : (b : ℕ) (others : List ℕ) (r : Told) → drop end p ≡ b ∷ others → r ≡ reply_to line → FirstReply so p r others
+  pub first_reply : (b : ℕ) (others : List ℕ) (r : Reply) → drop end p ≡ b ∷ others → r ≡ reply_to line → FirstReply so p r others
   unfolding replies
   first_reply b others r h a =
       let f : FirstLine so p (take (line_end p) p) others = first_line p so b others (rw its_end at h) in
       record {
-        its_replies = ap replies f.its_lines ∙ ap (λ (k : Told). k ∷ replies (lines others)) (sym (a ∙ ap reply_to its_held ∙ reply_kept (so ++ take end p) ∙ rw its_end));
+        its_replies = ap replies f.its_lines ∙ ap (λ (k : Reply). k ∷ replies (lines others)) (sym (a ∙ ap reply_to its_held ∙ reply_as_held (so ++ take end p) ∙ rw its_end));
         its_rest = f.its_rest;
-        its_feeds = f.its_feeds;
+        its_line_feeds = f.its_line_feeds;
       }
 
--- the answer lines and the counts of what a piece adds
-module _ (so p : List ℕ) (r : Told) (others : List ℕ) (f : FirstReply so p r others) where
-  pub answers_more : answer_lines (lines_from so p) ≡ written r ++ answer_lines (lines others)
+-- the answer lines and the tallies of what a piece adds
+module _ (so p : List ℕ) (r : Reply) (others : List ℕ) (f : FirstReply so p r others) where
+  pub answers_more : answer_lines (lines_from so p) ≡ answer_line r ++ answer_lines (lines others)
   unfolding answer_lines joined
-  answers_more = ap (flat_map written) f.its_replies
+  answers_more = ap (flat_map answer_line) f.its_replies
 
-  pub length_more : length (answer_lines (lines_from so p)) ≡ length (written r) + length (answer_lines (lines others))
-  length_more = ap length answers_more ∙ length-append (written r) (answer_lines (lines others))
+  pub length_more : length (answer_lines (lines_from so p)) ≡ length (answer_line r) + length (answer_lines (lines others))
+  length_more = ap length answers_more ∙ length-append (answer_line r) (answer_lines (lines others))
 
-  pub counts_more : counts (replies (lines_from so p)) ≡ plus (one r) (counts (replies (lines others)))
-  unfolding counts
-  counts_more = ap counts f.its_replies
+  pub tallies_more : tallies_of (replies (lines_from so p)) ≡ plus (tally_of r) (tallies_of (replies (lines others)))
+  unfolding tallies_of
+  tallies_more = ap tallies_of f.its_replies
 
 -- or nothing
 module _ (so p left : List ℕ) (f : NoneEnds so p left) where
@@ -66,9 +65,9 @@ module _ (so p left : List ℕ) (f : NoneEnds so p left) where
   unfolding answer_lines replies joined
   no_answers = ap answer_lines f.no_lines
 
-  pub no_counts : counts (replies (lines_from so p)) ≡ none
-  unfolding counts replies
-  no_counts = ap (λ (k : List (List ℕ)). counts (replies k)) f.no_lines
+  pub no_tallies : tallies_of (replies (lines_from so p)) ≡ zero_tallies
+  unfolding tallies_of replies
+  no_tallies = ap (λ (k : List (List ℕ)). tallies_of (replies k)) f.no_lines
 
   pub no_length : length (answer_lines (lines_from so p)) ≡ 0
   no_length = ap length no_answers

@@ -1,6 +1,6 @@
 // The first line of a piece, which carries on the one that is held.
 ghost use Rattle.std.specs.Prelude.{◌≡◌, MatchResult};
-ghost use Rattle.replies.specs.Reply.{told, reply_to};
+ghost use Rattle.replies.specs.Reply.{reply_of, reply_to};
 ghost use Rattle.piece.specs.Piece.{FirstReply, NoneEnds};
 
 use lines::Refusal;
@@ -18,7 +18,7 @@ pub(crate) struct First<'a> {
 // from the state and the piece from the caller: a struct of both would be made for this call.
 pub(crate) fn first_reply<'a>(held: Held, piece: &'a [u8]) -> Result<First<'a>, Held>
     ensures { MatchResult result
-        (λ first. FirstReply held piece.entry.now (told first.reply) first.others.now)
+        (λ first. FirstReply held piece.entry.now (reply_of first.reply) first.others.now)
         (λ left. NoneEnds held piece.entry.now left) }
 {
     let mut unread = Piece {
@@ -36,9 +36,9 @@ pub(crate) fn first_reply<'a>(held: Held, piece: &'a [u8]) -> Result<First<'a>, 
 }
 
 // What the line that is held is answered with.
-#[tactic(auto, using(replies::proofs::Lengths::over_long_lem), unfolding(lines::specs::Format::number, replies::specs::Reply::told))]
+#[tactic(auto, using(replies::proofs::Lengths::over_long_lem))]
 fn reply_to_held(held: &Held) -> Reply
-    ensures { told result ≡ reply_to held.now }
+    ensures { reply_of result ≡ reply_to held.now }
 {
     match held.line() {
         Some(line) => reply_to(line),

@@ -16,7 +16,7 @@ use state::State;
 pub const MOST_LINES: u32 = 0xffff_ffff;
 
 // An answer line is at most so many bytes longer than its line, each with its line feed.
-pub const MORE: usize = 5;
+pub const ANSWER_GROWTH: usize = 5;
 
 // What taking a piece gives: the state after it, and how many bytes were written. `Fed` of `batch` has the
 // answer of a feed in the place of that number, which may be a refusal.

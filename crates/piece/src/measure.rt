@@ -1,20 +1,20 @@
 // Whether the answer lines of a piece have room.
 ghost use Rattle.std.specs.Prelude.{◌≡◌, ◌+◌, ◌-◌, ◌*◌, ◌≤◌, ltb, leb, length};
 ghost use Rattle.std.specs.Option.{SomeIff};
-ghost use Rattle.scan.specs.Complete.{lines_from, lines, feeds};
-ghost use Rattle.piece.specs.Piece.{answer_lines, more, most_lines};
+ghost use Rattle.scan.specs.Complete.{lines_from, lines, line_feeds};
+ghost use Rattle.piece.specs.Piece.{answer_lines, answer_growth, most_lines};
 
 use crate::first::{First, first_reply};
-use crate::{MORE, MOST_LINES};
+use crate::{ANSWER_GROWTH, MOST_LINES};
 use replies::{reply_length, reply_to};
 use scan::{Lines, line_feeds};
 use state::Held;
 
 // Whether the lines so far and the line feeds of a piece are more than can be counted. The line feeds
 // are looked for only where the piece has enough bytes for that.
-#[tactic(auto, using(scan::proofs::Cutting::feeds_within))]
+#[tactic(auto, using(scan::proofs::Cutting::line_feeds_within))]
 pub fn too_many(lines: u32, piece: &[u8]) -> bool
-    ensures { result ≡ ltb most_lines (lines + feeds piece.now) }
+    ensures { result ≡ ltb most_lines (lines + line_feeds piece.now) }
 {
     let left = (MOST_LINES - lines) as usize;
     piece.len() > left && line_feeds(piece) > left
@@ -25,7 +25,7 @@ pub fn too_many(lines: u32, piece: &[u8]) -> bool
 // have. What is held, the piece and the room are three parameters, here and in what is called from here:
 // a struct of them would be made for this call.
 pub fn is_short(held: Held, piece: &[u8], room: usize) -> bool
-    requires { feeds piece.now ≤ most_lines }
+    requires { line_feeds piece.now ≤ most_lines }
     ensures { result ≡ ltb room (length (answer_lines (lines_from held piece.now))) }
 {
     !has_room(held.len(), piece, room) && room_left(held, piece, room).is_none()
@@ -33,19 +33,19 @@ pub fn is_short(held: Held, piece: &[u8], room: usize) -> bool
 
 // Whether `room` holds the answers to a line with `held` bytes and this piece, whatever they are. The
 // line feeds are counted only where a line feed at every byte would be too much.
-#[tactic(auto, using(scan::proofs::Cutting::feeds_within))]
+#[tactic(auto, using(scan::proofs::Cutting::line_feeds_within))]
 fn has_room(held: usize, piece: &[u8], room: usize) -> bool
-    requires { feeds piece.now ≤ most_lines }
-    ensures { result ≡ leb (held + length piece.now + more * feeds piece.now) room }
+    requires { line_feeds piece.now ≤ most_lines }
+    ensures { result ≡ leb (held + length piece.now + answer_growth * line_feeds piece.now) room }
 {
     let Some(left) = room.checked_sub(held) else {
         return false;
     };
-    if piece.len() <= left / (MORE + 1) {
+    if piece.len() <= left / (ANSWER_GROWTH + 1) {
         return true;
     }
     match left.checked_sub(piece.len()) {
-        Some(left) => MORE * line_feeds(piece) <= left,
+        Some(left) => ANSWER_GROWTH * line_feeds(piece) <= left,
         None => false,
     }
 }

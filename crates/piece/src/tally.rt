@@ -1,8 +1,8 @@
 // Counting a reply.
 ghost use Rattle.std.specs.Prelude.{◌≡◌, ◌<◌};
-ghost use Rattle.replies.specs.Reply.{told};
+ghost use Rattle.replies.specs.Reply.{reply_of};
 ghost use Rattle.state.specs.Tally.{plus, total};
-ghost use Rattle.piece.specs.Counts.{one};
+ghost use Rattle.piece.specs.Counts.{tally_of};
 ghost use Rattle.piece.specs.Piece.{most_lines};
 
 use compound::Route;
@@ -10,10 +10,10 @@ use replies::Reply;
 use state::Tallies;
 
 // The tallies with one line more.
-#[tactic(auto, unfolding(replies::specs::Reply::told, state::specs::Tally::total, state::specs::Tally::plus, crate::specs::Counts::one, crate::specs::Counts::by_route))]
-pub(crate) fn counted(t: Tallies, reply: Reply) -> Tallies
+#[tactic(auto, unfolding(state::specs::Tally::total, state::specs::Tally::plus, crate::specs::Counts::tally_of, crate::specs::Counts::tally_of_route))]
+pub(crate) fn count_reply(t: Tallies, reply: Reply) -> Tallies
     requires { total t < most_lines }
-    ensures { result ≡ plus t (one (told reply)) }
+    ensures { result ≡ plus t (tally_of (reply_of reply)) }
 {
     let mut next = t;
     match reply.map(|answered| answered.answer.route()) {

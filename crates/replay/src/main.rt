@@ -26,7 +26,7 @@ fn digit(b: u8) -> u32
 }
 
 // The pattern of eight hexadecimal digits.
-fn pattern(digits: &[u8]) -> u32 {
+fn pattern_of_digits(digits: &[u8]) -> u32 {
     digits
         .iter()
         .fold(0, |n, b| n % 0x1000_0000 * 16 + digit(*b))
@@ -46,7 +46,11 @@ fn main(rt: HostRuntime) -> io::Result<()> {
     for _ in 0..LINES {
         let mut line = [0u8; 18];
         match input.read_exact(&mut line) {
-            Ok(()) => replay(&rt, pattern(&line[..8]), pattern(&line[9..17]))?,
+            Ok(()) => replay(
+                &rt,
+                pattern_of_digits(&line[..8]),
+                pattern_of_digits(&line[9..17]),
+            )?,
             Err(e) if e.kind() == ErrorKind::UnexpectedEof => return Ok(()),
             Err(e) => return Err(e),
         }

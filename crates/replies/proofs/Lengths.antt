@@ -11,10 +11,10 @@ use Rattle.compound.specs.declared.Route.{Route}
 use Rattle.compound.specs.declared.Route.TheVariants.{Rule as rule, Whole as whole, Edge as edge, Fast as fast, Slow as slow}
 use Rattle.compound.specs.Answer.{Outcome, word}
 use Rattle.text.specs.Digits.{places}
-use Rattle.lines.specs.Format.{line_of, longest, read_line, number}
+use Rattle.lines.specs.Format.{line_of, longest, read_line, refusal_number}
 use Rattle.text.proofs.Numerals.{length_decimal, length_hex, places_most}
 use Rattle.lines.proofs.BothWays.{both_ways}
-use Rattle.replies.specs.Reply.{answered, bad, ending, answer_to, answer_pattern, reply_to, written}
+use Rattle.replies.specs.Reply.{answer, bad, ending, reply_to_read, answer_pattern, reply_to, answer_line, reply_of}
 use Rattle.lines.specs.declared.Pair.{Pair}
 use Rattle.lines.specs.declared.Refusal.{Refusal}
 use Rattle.lines.specs.declared.Refusal.TheVariants.{TooLong, NoId, NoX, NoY}
@@ -29,17 +29,17 @@ word_most fast = omega arith
 word_most slow = omega arith
 
 -- an answer line: what it says beside its id and its route takes twenty bytes
-pub length_answered : (d : ℕ) (o : Outcome) → length (written (answered d o)) ≡ 20 + places 9 d + length (word o.via)
-unfolding written ending
-length_answered d o = simp length-append (omega (arith, length_decimal d, length_hex (answer_pattern o.value)))
+pub length_answer : (d : ℕ) (o : Outcome) → length (answer_line (answer d o)) ≡ 20 + places 9 d + length (word o.via)
+unfolding answer_line ending
+length_answer d o = simp length-append (omega (arith, length_decimal d, length_hex (answer_pattern o.value)))
 
 -- the line of a refusal: its number and five bytes
-pub length_bad : (n : ℕ) → length (written (bad n)) ≡ 5 + places 9 n
-unfolding written
+pub length_bad : (n : ℕ) → length (answer_line (bad n)) ≡ 5 + places 9 n
+unfolding answer_line
 length_bad n = simp length-append (omega (arith, length_decimal n))
 
 -- the length of an answer line, and that it is small
-pub ruleset length_steps = (length_answered, length_bad, word_most, places_most)
+pub ruleset length_steps = (length_answer, length_bad, word_most, places_most)
 
 -- an accepted line: what it says beside its id takes twenty-five bytes
 length_line : (d x y : ℕ) → length (line_of d x y) ≡ 25 + places 9 d
@@ -47,24 +47,24 @@ unfolding line_of
 length_line d x y = simp length-append (omega (arith, length_decimal d, length_hex x, length_hex y))
 
 -- an accepted line's answer is no longer than the line
-answered_most : (l : List ℕ) (d x y : ℕ) (o : Outcome) → l ≡ line_of d x y → length (written (answered d o)) ≤ length l
-answered_most l d x y o e = omega (arith, length_answered d o, length_line d x y, ap length e, word_most o.via)
+answer_most : (l : List ℕ) (d x y : ℕ) (o : Outcome) → l ≡ line_of d x y → length (answer_line (answer d o)) ≤ length l
+answer_most l d x y o e = omega (arith, length_answer d o, length_line d x y, ap length e, word_most o.via)
 
 -- what a line is answered with, by the case of what it says
-told_most : (l : List ℕ) (r : Result Pair Refusal) → read_line l ≡ r → length (written (answer_to r)) ≤ length l + 6
-unfolding answer_to number places
-told_most l (Ok p) e = le_trans (answered_most l p.id p.x p.y _ (both_ways.nothing_else l p.id p.x p.y e).0) (omega arith)
-told_most l (Err TooLong) e = omega (arith, length_bad 1)
-told_most l (Err NoId) e = omega (arith, length_bad 2)
-told_most l (Err NoX) e = omega (arith, length_bad 3)
-told_most l (Err NoY) e = omega (arith, length_bad 4)
+reply_most : (l : List ℕ) (r : Result Pair Refusal) → read_line l ≡ r → length (answer_line (reply_to_read r)) ≤ length l + 1 + 5
+unfolding reply_to_read refusal_number places
+reply_most l (Ok p) e = le_trans (answer_most l p.id p.x p.y _ (both_ways.nothing_else l p.id p.x p.y e).0) (omega arith)
+reply_most l (Err TooLong) e = omega (arith, length_bad 1)
+reply_most l (Err NoId) e = omega (arith, length_bad 2)
+reply_most l (Err NoX) e = omega (arith, length_bad 3)
+reply_most l (Err NoY) e = omega (arith, length_bad 4)
 
--- an answer line, with its feed, is longer than its line by six bytes at most
-pub answer_length : (l : List ℕ) → length (written (reply_to l)) ≤ length l + 6
+-- an answer line is at most five bytes longer than its line, each with its line feed
+pub answer_length : (l : List ℕ) → length (answer_line (reply_to l)) ≤ length l + 1 + 5
 unfolding reply_to
-answer_length l = told_most l (read_line l) refl
+answer_length l = reply_most l (read_line l) refl
 
 -- a line over the longest is refused for that
-pub over_long_lem : (l : List ℕ) → longest < length l → reply_to l ≡ bad 1
-unfolding reply_to answer_to read_line number
+pub over_long_lem : (l : List ℕ) → longest < length l → reply_to l ≡ reply_of (Err TooLong)
+unfolding reply_to reply_to_read read_line
 over_long_lem l h = rw (lt-ltb longest (length l) h)

@@ -5,7 +5,7 @@
 mod write;
 
 ghost use Rattle.std.specs.Prelude.{◌≡◌};
-ghost use Rattle.replies.specs.Reply.{reply_to, told};
+ghost use Rattle.replies.specs.Reply.{reply_to, reply_of};
 
 use compound::{Answer, f_compoundf};
 use lines::{Pair, Refusal, read_line};
@@ -22,9 +22,9 @@ pub struct Answered {
 pub type Reply = Result<Answered, Refusal>;
 
 // What the line is answered with.
-#[tactic(auto, unfolding(crate::specs::Reply::reply_to, crate::specs::Reply::told, crate::specs::Reply::answer_to))]
+#[tactic(auto, unfolding(crate::specs::Reply::reply_to, crate::specs::Reply::reply_to_read))]
 pub fn reply_to(line: &[u8]) -> Reply
-    ensures { told result ≡ reply_to line.now }
+    ensures { reply_of result ≡ reply_to line.now }
 {
     let Pair { id, x, y } = read_line(line)?;
     let answer = f_compoundf(x, y);

@@ -1,6 +1,6 @@
 // Writing an answer line.
 ghost use Rattle.std.specs.Prelude.{◌≡◌, length};
-ghost use Rattle.replies.specs.Reply.{ending, told, written};
+ghost use Rattle.replies.specs.Reply.{ending, reply_of, answer_line};
 
 use crate::{Answered, Reply};
 use compound::Route;
@@ -29,9 +29,9 @@ impl Text for Ending {
 }
 
 // The length of a reply's answer line, with its feed.
-#[tactic(auto, using(crate::proofs::Lengths::length_steps), unfolding(crate::specs::Reply::told))]
+#[tactic(auto, using(crate::proofs::Lengths::length_steps))]
 pub fn reply_length(reply: Reply) -> usize
-    ensures { result ≡ length (written (told reply)) }
+    ensures { result ≡ length (answer_line (reply_of reply)) }
 {
     match reply {
         Ok(Answered { id, answer }) => 20 + places(id) + answer.route().word().len(),
@@ -44,9 +44,9 @@ pub fn reply_length(reply: Reply) -> usize
 pub struct AnswerLine(pub Reply);
 
 impl Text for AnswerLine {
-    ghost bytes = { λ l. written (told l.0) };
+    ghost bytes = { λ l. answer_line (reply_of l.0) };
 
-    #[tactic(auto, using(crate::proofs::Patterns::answer_pattern_lem), unfolding(crate::specs::Reply::told, crate::specs::Reply::written))]
+    #[tactic(auto, using(crate::proofs::Patterns::answer_pattern_lem), unfolding(crate::specs::Reply::answer_line))]
     fn put(self, out: &mut [u8], at: usize) -> usize {
         match self.0 {
             Ok(Answered { id, answer }) => {

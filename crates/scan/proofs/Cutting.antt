@@ -3,52 +3,52 @@ use Rattle.std.proofs.Common.{◌≡◌, ℕ, suc, ◌+◌, ◌≤◌, Bool, tru
 use lib.Seq.{append_snoc, drop-nil}
 use Rattle.std.proofs.lemmas.List.Sums.{count_by-le-length, prefix_len-le-length, sum_by-append, sum_by-cons}
 use Rattle.std.proofs.lemmas.Bool.Decides.{nat_tests}
-use Rattle.scan.specs.Complete.{line_feed, lines_from, rest_from, lines, rest, feeds, line_end}
+use Rattle.scan.specs.Complete.{line_feed, lines_from, rest_from, lines, rest, line_feeds, line_end}
 
 -- a line's end lies within the list, and there are no more line feeds than bytes
 pub line_end_within : (l : List ℕ) → line_end l ≤ length l
 unfolding line_end
 line_end_within l = prefix_len-le-length (λ b. not (eqb b line_feed)) l
 
-pub feeds_within : (l : List ℕ) → feeds l ≤ length l
-unfolding feeds
-feeds_within l = count_by-le-length (λ b. eqb b line_feed) l
+pub line_feeds_within : (l : List ℕ) → line_feeds l ≤ length l
+unfolding line_feeds
+line_feeds_within l = count_by-le-length (λ b. eqb b line_feed) l
 
 -- line feeds add up
-pub feeds_append : (p q : List ℕ) → feeds (p ++ q) ≡ feeds p + feeds q
-unfolding feeds
-feeds_append p q = sum_by-append (λ b. cond (eqb b line_feed) 1 0) p q
+pub line_feeds_append : (p q : List ℕ) → line_feeds (p ++ q) ≡ line_feeds p + line_feeds q
+unfolding line_feeds
+line_feeds_append p q = sum_by-append (λ b. cond (eqb b line_feed) 1 0) p q
 
-pub feeds_nil : feeds [] ≡ 0
-unfolding feeds
-feeds_nil = refl
+pub line_feeds_nil : line_feeds [] ≡ 0
+unfolding line_feeds
+line_feeds_nil = refl
 
-pub feeds_first : (b : ℕ) (l : List ℕ) → feeds (b ∷ l) ≡ cond (eqb b line_feed) 1 0 + feeds l
-unfolding feeds
-feeds_first b l = sum_by-cons (λ b. cond (eqb b line_feed) 1 0) b l
+pub line_feeds_first : (b : ℕ) (l : List ℕ) → line_feeds (b ∷ l) ≡ cond (eqb b line_feed) 1 0 + line_feeds l
+unfolding line_feeds
+line_feeds_first b l = sum_by-cons (λ b. cond (eqb b line_feed) 1 0) b l
 
 -- `l`, after the bytes `so` of a line, has no line feed
 pub record NoLine (so l : List ℕ) : Type 0 where
   pub no_lines : lines_from so l ≡ []
   pub all_rest : rest_from so l ≡ so ++ l
-  pub no_feeds : feeds l ≡ 0
+  pub no_line_feeds : line_feeds l ≡ 0
 
 -- `l`, after the bytes `so` of a line, ends that line with `line` and a line feed, and `left` follows
 pub record FirstLine (so l line left : List ℕ) : Type 0 where
   pub its_lines : lines_from so l ≡ (so ++ line) ∷ lines left
   pub its_rest : rest_from so l ≡ rest left
-  pub its_feeds : feeds l ≡ feeds left + 1
+  pub its_line_feeds : line_feeds l ≡ line_feeds left + 1
 
 -- a list whose first line feed is its end has none
 pub no_line : (l so : List ℕ) → line_end l ≡ length l → NoLine so l
-unfolding lines_from rest_from feeds line_end
-no_line [] so e = record { no_lines = refl; all_rest = sym (append-nil so); no_feeds = refl }
+unfolding lines_from rest_from line_feeds line_end
+no_line [] so e = record { no_lines = refl; all_rest = sym (append-nil so); no_line_feeds = refl }
 no_line (b ∷ l) so e =
     let r = no_line l (so ++ b ∷ []) in
     record {
       no_lines = grind (arith, nat_tests);
       all_rest = grind (arith, nat_tests, append_snoc);
-      no_feeds = grind (arith, nat_tests, feeds_first);
+      no_line_feeds = grind (arith, nat_tests, line_feeds_first);
     }
 
 -- a line feed ends the line, and another byte makes it longer
@@ -72,21 +72,21 @@ first_line (a ∷ l) so b left e = by (eqb a line_feed) refl (first_line l (so +
         record {
           its_lines = rw (h, end_here a l h, append-nil, f);
           its_rest = rw (h, f);
-          its_feeds = grind (arith, nat_tests, feeds_first);
+          its_line_feeds = grind (arith, nat_tests, line_feeds_first);
         }
     by false h r =
         let f : FirstLine (so ++ a ∷ []) l (take (line_end l) l) left = r (rw (end_later a l h) at e) in
         record {
           its_lines = rw (h, end_later a l h) (f.its_lines ∙ rw append_snoc);
           its_rest = rw h f.its_rest;
-          its_feeds = grind (arith, nat_tests, feeds_first);
+          its_line_feeds = grind (arith, nat_tests, line_feeds_first);
         }
 
 -- as many lines as line feeds
-pub length_lines : (l so : List ℕ) → length (lines_from so l) ≡ feeds l
+pub length_lines : (l so : List ℕ) → length (lines_from so l) ≡ line_feeds l
 unfolding lines_from
-length_lines [] so = sym feeds_nil
-length_lines (b ∷ l) so = grind (arith, nat_tests, feeds_first, length_lines l [], length_lines l (so ++ b ∷ []))
+length_lines [] so = sym line_feeds_nil
+length_lines (b ∷ l) so = grind (arith, nat_tests, line_feeds_first, length_lines l [], length_lines l (so ++ b ∷ []))
 
 -- a list cut anywhere: its lines are those of the first part, and then those of the second after what the first leaves
 pub lines_append : (p q so : List ℕ) → lines_from so (p ++ q) ≡ lines_from so p ++ lines_from (rest_from so p) q
@@ -100,7 +100,7 @@ rest_append [] q so = refl
 rest_append (b ∷ p) q so = grind (arith, nat_tests, rest_append p q [], rest_append p q (so ++ b ∷ []))
 
 -- what a list leaves unfinished has no line feed
-pub feeds_rest : (l so : List ℕ) → feeds so ≡ 0 → feeds (rest_from so l) ≡ 0
-unfolding rest_from feeds
-feeds_rest [] so e = e
-feeds_rest (b ∷ l) so e = grind (arith, nat_tests, feeds_append, feeds_first, feeds_rest l [], feeds_rest l (so ++ b ∷ []))
+pub line_feeds_rest : (l so : List ℕ) → line_feeds so ≡ 0 → line_feeds (rest_from so l) ≡ 0
+unfolding rest_from line_feeds
+line_feeds_rest [] so e = e
+line_feeds_rest (b ∷ l) so e = grind (arith, nat_tests, line_feeds_append, line_feeds_first, line_feeds_rest l [], line_feeds_rest l (so ++ b ∷ []))

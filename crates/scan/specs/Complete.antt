@@ -29,11 +29,12 @@ rest l = rest_from [] l
 -- the unfinished tail, is left.
 abbrev pub NextLine : List ℕ → Option (Bor (List ℕ)) → List ℕ → Type 0
 NextLine l r left =
-    MatchOption r ((lines l ≡ []) × (rest l ≡ l) × (left ≡ l)) (λ line. (lines l ≡ line.now ∷ lines left) × (rest l ≡ rest left))
+    MatchOption r ((lines l ≡ []) × (rest l ≡ l) × (left ≡ l))
+    (λ line. (lines l ≡ line.now ∷ lines left) × (rest l ≡ rest left))
 
 -- how many line feeds l has
-unfoldable pub feeds : List ℕ → ℕ
-feeds l = count_by (λ b. eqb b line_feed) l
+unfoldable pub line_feeds : List ℕ → ℕ
+line_feeds l = count_by (λ b. eqb b line_feed) l
 
 -- how many bytes stand before the first line feed of l, or in all of it; no contract of `batch` or above cites it
 unfoldable pub line_end : List ℕ → ℕ

@@ -6,38 +6,41 @@ mod lines;
 
 ghost use Rattle.std.specs.Prelude.{◌≡◌, ◌+◌, ◌*◌, ◌≤◌, length, drop, eqb};
 ghost use Rattle.std.specs.List.{list_any};
-ghost use Rattle.scan.specs.Complete.{line_feed, feeds, line_end};
+ghost use Rattle.scan.specs.Complete.{line_feed, line_feeds, line_end};
 
 pub use lines::Lines;
 
 // How many line feeds there are. They are added up without a branch on any byte, so that the compiler
 // can look at several at once.
-#[tactic(auto, unfolding(crate::specs::Complete::feeds))]
+#[tactic(auto, unfolding(crate::specs::Complete::line_feeds))]
 pub fn line_feeds(s: &[u8]) -> usize
-    ensures { result ≡ feeds s.now }
+    ensures { result ≡ line_feeds s.now }
 {
     s.iter().map(|b| usize::from(*b == b'\n')).sum()
 }
 
 // Whether one of eight bytes is a line feed. All eight are looked at and no branch is taken on any of
 // them, so that the compiler can test them at once.
-fn has_feed(eight: &[u8; 8]) -> bool
+fn has_line_feed(eight: &[u8; 8]) -> bool
     ensures { result ≡ list_any (λ b. eqb b line_feed) eight.now }
 {
     eight.iter().fold(false, |found, b| found | (*b == b'\n'))
 }
 
 // A place no later than the first line feed, in steps of eight bytes.
-fn near_feed(s: &[u8]) -> usize
+fn near_line_feed(s: &[u8]) -> usize
     ensures { (result ≤ length s.now) × (line_end s.now ≡ result + line_end (drop result s.now)) }
 {
     let (eights, _) = s.as_chunks::<8>();
-    8 * eights.iter().position(has_feed).unwrap_or(eights.len())
+    8 * eights
+        .iter()
+        .position(has_line_feed)
+        .unwrap_or(eights.len())
 }
 
 // How many bytes stand before the first line feed, or how many there are where there is none.
 #[tactic(auto, using(crate::proofs::Eights::place_or_len), unfolding(crate::specs::Complete::line_end))]
-fn first_feed(s: &[u8]) -> usize
+fn first_line_feed(s: &[u8]) -> usize
     ensures { result ≡ line_end s.now }
 {
     s.iter().position(|b| *b == b'\n').unwrap_or(s.len())
@@ -48,6 +51,6 @@ fn first_feed(s: &[u8]) -> usize
 pub fn line_end(s: &[u8]) -> usize
     ensures { result ≡ line_end s.now }
 {
-    let near = near_feed(s);
-    near + first_feed(&s[near..])
+    let near = near_line_feed(s);
+    near + first_line_feed(&s[near..])
 }

@@ -1,5 +1,6 @@
 -- For t from -150 to -127, k is from -150 to -127 (`below_normal`). Assumes nothing.
 use Rattle.std.proofs.Common.{◌≡◌, ℕ, zero, suc, ◌+◌, ◌*◌, ◌/◌, ◌^◌, ◌<◌, ◌≤◌, sym, ap, ◌∙◌, subst, true, false, min, le_trans, le_of_eq, le_of_suc-le-suc, not-le_of_lt, mul-one, mul-div_cancel, mul-le-mul_right, arith, T, lit<, ℤ, pos, neg_ℤ}
+use lib.IntN.{negsuc}
 use mathlib.Core.Bool.{false≢true}
 use Rattle.fast_path.proofs.Lifted.{Within}
 use lib.Ieee.{Float, nan, inf, fin, binary64, up, down, fits, le, to_signed}
@@ -15,7 +16,11 @@ use Rattle.fast_path.proofs.Index.{within_of_size}
 use Rattle.bounds.proofs.Values.{per_one}
 use Rattle.bounds.proofs.Scales.{S, one_is, Bound}
 use Rattle.bounds.proofs.Compared.{units_in_size}
-use Rattle.slow_filter.specs.Subnormal.{BelowNormal}
+
+-- k is from -150 to -127: a value from 1/2 to 2 times 2^k is from 2^-151 to 2^-126
+abbrev pub BelowNormal : ℤ → Type 0
+BelowNormal (pos n) = ⊥
+BelowNormal (negsuc n) = (126 ≤ n) × (n < 150)
 
 -- the nearest whole number to what is -127 or less is -127 or less
 whole_below : (m : ℕ) (e : ℤ) → T (fits binary64 (fin true m e)) → 127 * down e ≤ m * up e → Within 150 (to_signed 63 (nearest_whole (fin true m e))) → BelowNormal (to_signed 63 (nearest_whole (fin true m e)))

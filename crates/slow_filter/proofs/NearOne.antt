@@ -17,12 +17,12 @@ use Rattle.bounds.proofs.Apart.{apart_turned}
 use Rattle.filter.proofs.Power.{Unscaled}
 use Rattle.std.proofs.lemmas.Option.{cond_some}
 use Rattle.filter.specs.Midpoints.{clear_of_midpoints, narrowed_pattern}
-use Rattle.slow_filter.specs.NearOne.{near_one_power, margin, near_one_found}
+use Rattle.slow_filter.specs.NearOne.{near_one_power, near_one_margin, near_one_found}
 use Rattle.slow_filter.proofs.NearOneTiny.{FromOne, tiny_bound, tiny_is_one, tiny_near}
 use Rattle.slow_filter.proofs.NearOnePower.{near_one_power_lem, tiny_power}
 
 -- ---- two patterns from 1/2 to 2 with no midpoint between them
-narrowed_is : (w w' : ℕ) → Unscaled w → w ≤ w' + 6 → w' ≤ w + 6 → 2 * margin < (w' + (0x10000000 + margin)) % 0x20000000 → narrowed (f64 w) ≡ of_bits binary32 ((w' + 0x10000000) / 0x20000000 - 0x1c0000000)
+narrowed_is : (w w' : ℕ) → Unscaled w → w ≤ w' + 6 → w' ≤ w + 6 → 2 * near_one_margin < (w' + (0x10000000 + near_one_margin)) % 0x20000000 → narrowed (f64 w) ≡ of_bits binary32 ((w' + 0x10000000) / 0x20000000 - 0x1c0000000)
 narrowed_is w w' u g h t =
     sym (of_bits-to_bits binary32 (narrowed (f64 w)) (narrowed_fits (f64 w))) ∙ ap (of_bits binary32) (normal_magnitude w (most w u.high) (least w u.low) ∙ rounds w w' u.low u.high g h t)
   where
@@ -32,25 +32,25 @@ narrowed_is w w' u g h t =
     most : (w : ℕ) → w < 1024 * 2 ^ 52 → w ≤ 0x7ff0000000000000
     most w h = omega arith
 
-    rounds : (w w' : ℕ) → 1022 * 2 ^ 52 ≤ w → w < 1024 * 2 ^ 52 → w ≤ w' + 6 → w' ≤ w + 6 → 2 * margin < (w' + (0x10000000 + margin)) % 0x20000000
+    rounds : (w w' : ℕ) → 1022 * 2 ^ 52 ≤ w → w < 1024 * 2 ^ 52 → w ≤ w' + 6 → w' ≤ w + 6 → 2 * near_one_margin < (w' + (0x10000000 + near_one_margin)) % 0x20000000
         → min ((w + 268435455 + w / 536870912 % 2) / 536870912 - 7516192768) 0x7f800000 ≡ (w' + 0x10000000) / 0x20000000 - 0x1c0000000
     rounds w w' l m g h t = omega arith
 
 -- ---- the answer that is found is what the other pattern narrows to
-narrows : (w w' : ℕ) (v : Float) → Unscaled w → w ≤ w' + 6 → w' ≤ w + 6 → narrowed_pattern margin w' ≡ Some v → narrowed (f64 w) ≡ v
+narrows : (w w' : ℕ) (v : Float) → Unscaled w → w ≤ w' + 6 → w' ≤ w + 6 → narrowed_pattern near_one_margin w' ≡ Some v → narrowed (f64 w) ≡ v
 unfolding narrowed_pattern
 narrows w w' v u g h found =
-    let o = cond_some (clear_of_midpoints margin w') _ v found in
+    let o = cond_some (clear_of_midpoints near_one_margin w') _ v found in
     narrowed_is w w' u g h (ltb-true _ _ o.0) ∙ o.1
 
 -- the same where both are 1
-narrows_one : (x : Float) (w' : ℕ) (v : Float) → narrowed x ≡ of_bits binary32 0x3f800000 → FromOne (2 ^ 28 + 8) w' → narrowed_pattern margin w' ≡ Some v → narrowed x ≡ v
+narrows_one : (x : Float) (w' : ℕ) (v : Float) → narrowed x ≡ of_bits binary32 0x3f800000 → FromOne (2 ^ 28 + 8) w' → narrowed_pattern near_one_margin w' ≡ Some v → narrowed x ≡ v
 unfolding narrowed_pattern
 narrows_one x w' v e r found =
-    let o = cond_some (clear_of_midpoints margin w') _ v found in
+    let o = cond_some (clear_of_midpoints near_one_margin w') _ v found in
     e ∙ ap (of_bits binary32) (rounds w' r.least r.most (ltb-true _ _ o.0)) ∙ o.1
   where
-    rounds : (w' : ℕ) → 1023 * 2 ^ 52 ≤ w' + (2 ^ 28 + 8) → w' ≤ 1023 * 2 ^ 52 + (2 ^ 28 + 8) → 2 * margin < (w' + (0x10000000 + margin)) % 0x20000000 → 0x3f800000 ≡ (w' + 0x10000000) / 0x20000000 - 0x1c0000000
+    rounds : (w' : ℕ) → 1023 * 2 ^ 52 ≤ w' + (2 ^ 28 + 8) → w' ≤ 1023 * 2 ^ 52 + (2 ^ 28 + 8) → 2 * near_one_margin < (w' + (0x10000000 + near_one_margin)) % 0x20000000 → 0x3f800000 ≡ (w' + 0x10000000) / 0x20000000 - 0x1c0000000
     rounds w' g h t = omega arith
 
 pub near_one : (t : DoubleDouble) (t' : Float) → Number t.hi → Apart S 2 t.hi t' → Bound S 1 t.lo → Bound S (2 ^ 37) t' → (v : Float) → near_one_found t' ≡ Some v → v ≡ exp2_accurate t

@@ -12,12 +12,12 @@ use Rattle.bounds.proofs.Nearest.{sign_below}
 use Rattle.bounds.proofs.Compared.{Positive, positive_at, positive_add}
 use Rattle.filter.specs.Plain.{part_of, rest_of, plain_pattern, clear_of_switches}
 use Rattle.filter.proofs.Power.{Unscaled}
-use Rattle.slow_filter.specs.Plain.{switch_gap}
+use Rattle.slow_filter.specs.Plain.{slow_switch_gap}
 use Rattle.slow_filter.specs.NearOne.{near_one_power}
 use Rattle.slow_filter.proofs.Power.{power_of}
 use Rattle.slow_filter.proofs.Reach.{reach_bound, reach_negative, reach_whole, wide_bounds}
 
-pub plain_unscaled : (t : Float) → T (fits binary64 t) → le t (fin true 1 (pos 7)) ≡ true → le (fin true 299 (negsuc 0)) t ≡ true → clear_of_switches switch_gap (part_of t) (rest_of t) ≡ true → Unscaled (plain_pattern t)
+pub plain_unscaled : (t : Float) → T (fits binary64 t) → le t (fin true 1 (pos 7)) ≡ true → le (fin true 299 (negsuc 0)) t ≡ true → clear_of_switches slow_switch_gap (part_of t) (rest_of t) ≡ true → Unscaled (plain_pattern t)
 unfolding fits
 plain_unscaled t f g h e =
     let b = reach_bound t f g h in

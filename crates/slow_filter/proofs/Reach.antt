@@ -1,6 +1,6 @@
 -- t as the tests leave it. From -149.5 to -128 it is between the edges, not 0, and its k is from -150 to -127; wide of the switches, its part is at most 1/2 - 2^-27 in size, and its rest at most
 -- 1/64 - 2^-27. Next to 1 it is from 2^-25 to 2^-16 in size. Assumes nothing.
-use Rattle.std.proofs.Common.{◌≡◌, ℕ, ◌+◌, ◌-◌, ◌*◌, ◌^◌, ◌<◌, ◌≤◌, refl, sym, subst, ◌⊎◌, inl, inr, Bool, true, false, true≢false, ◌&&◌, le_trans, lt_of_lt_of_le, arith, T, lit≤, lit<, pos}
+use Rattle.std.proofs.Common.{◌≡◌, ℕ, ◌+◌, ◌-◌, ◌*◌, ◌^◌, ◌<◌, ◌≤◌, refl, sym, subst, ◌⊎◌, inl, inr, Bool, true, true≢false, ◌&&◌, le_trans, lt_of_lt_of_le, arith, T, lit≤, lit<}
 use lib.Ieee.{Float, nan, inf, fin, binary64, fits, sub, neg, le, ne, of_bits, to_signed}
 use lib.Ieee.Fits.{sub-fits}
 use Rattle.floats.specs.OnBits.{absolute}
@@ -15,10 +15,10 @@ use Rattle.bounds.proofs.Compared.{units_of_le, lt_true}
 use Rattle.filter.specs.Plain.{part_of, rest_of, part_end, rest_end, clear_of_switches, slow_from, slow_to}
 use Rattle.filter.proofs.Power.{part_half}
 use Rattle.filter.proofs.Middle.{four, of_tests}
-use Rattle.filter.proofs.Limits.{between_bound, end_bound, lower_edge, upper_edge, InsideEdges}
-use Rattle.slow_filter.specs.Plain.{switch_gap, in_reach, next_from, next_to, next_to_one}
-use Rattle.slow_filter.specs.Subnormal.{BelowNormal}
-use Rattle.slow_filter.proofs.BelowNormal.{below_normal}
+use Rattle.filter.proofs.Limits.{between_bound, end_bound, lower_edge_units, upper_edge_units, InsideEdges}
+use Rattle.slow_filter.specs.Plain.{slow_switch_gap, in_reach, slow_next_from, slow_next_to, next_to_one}
+use Rattle.fast_path.specs.Edges.{lower_edge, upper_edge}
+use Rattle.slow_filter.proofs.BelowNormal.{BelowNormal, below_normal}
 
 -- ---- the tests, one by one
 three : (a b c : Bool) → (a && (b && c)) ≡ true → (a ≡ true) × (b ≡ true) × (c ≡ true)
@@ -30,41 +30,40 @@ pub record Reached (y t : Float) : Type 0 where
   pub low : le slow_from t ≡ true
 
 pub in_parts : (y t : Float) → in_reach y t ≡ true → Reached y t
-unfolding in_reach
 in_parts y t e =
     let o = three (ne y one) (le t slow_to) (le slow_from t) e in
     record { not_one = o.0; high = o.1; low = o.2 }
 
 pub record Next (y t : Float) : Type 0 where
   pub not_one : ne y one ≡ true
-  pub most : le (absolute t) next_to ≡ true
-  pub least : le next_from (absolute t) ≡ true
+  pub most : le (absolute t) slow_next_to ≡ true
+  pub least : le slow_next_from (absolute t) ≡ true
 
 pub next_parts : (y t : Float) → next_to_one y t ≡ true → Next y t
 unfolding next_to_one
 next_parts y t e =
-    let o = three (ne y one) (le (absolute t) next_to) (le next_from (absolute t)) e in
+    let o = three (ne y one) (le (absolute t) slow_next_to) (le slow_next_from (absolute t)) e in
     record { not_one = o.0; most = o.1; least = o.2 }
 
 -- ---- |t| at most 2^-16, and 2^-25 at least
 -- what is at most 2^-16 in size is a number
-small_number : (t : Float) → T (fits binary64 t) → le (absolute t) next_to ≡ true → Number t
+small_number : (t : Float) → T (fits binary64 t) → le (absolute t) slow_next_to ≡ true → Number t
 unfolding absolute le
 small_number nan f e = absurd (true≢false (sym e))
 small_number (inf s) f e = absurd (true≢false (sym e))
 small_number (fin s m k) f e = record { held = f; plain = tt }
 
-sizes : Number next_to × (plus next_to ≤ 2 ^ 37 * S) × (less next_to ≡ 0) × Number next_from × (2 ^ 28 * S ≤ plus next_from) × (less next_from ≡ 0)
+sizes : Number slow_next_to × (plus slow_next_to ≤ 2 ^ 37 * S) × (less slow_next_to ≡ 0) × Number slow_next_from × (2 ^ 28 * S ≤ plus slow_next_from) × (less slow_next_from ≡ 0)
 unfolding fits S
 sizes = (record { held = tt; plain = tt }, lit≤ tt, refl, record { held = tt; plain = tt }, lit≤ tt, refl)
 
-pub next_bound : (t : Float) → T (fits binary64 t) → le (absolute t) next_to ≡ true → Bound S (2 ^ 37) t
+pub next_bound : (t : Float) → T (fits binary64 t) → le (absolute t) slow_next_to ≡ true → Bound S (2 ^ 37) t
 next_bound t f e =
     let n = small_number t f e in
-    record { scale = unit; number = n; size = le_trans (size_most next_to t sizes.0 sizes.2 n e) sizes.1 }
+    record { scale = unit; number = n; size = le_trans (size_most slow_next_to t sizes.0 sizes.2 n e) sizes.1 }
 
-pub next_least : (t : Float) → Number t → le next_from (absolute t) ≡ true → 2 ^ 28 * S ≤ mag t
-next_least t n e = le_trans sizes.4 (size_least next_from t sizes.3 sizes.5 n e)
+pub next_least : (t : Float) → Number t → le slow_next_from (absolute t) ≡ true → 2 ^ 28 * S ≤ mag t
+next_least t n e = le_trans sizes.4 (size_least slow_next_from t sizes.3 sizes.5 n e)
 
 -- ---- t between -149.5 and -128
 module _ (t : Float) (f : T (fits binary64 t)) (high : le t slow_to ≡ true) (low : le slow_from t ≡ true) where
@@ -93,8 +92,8 @@ module _ (t : Float) (f : T (fits binary64 t)) (high : le t slow_to ≡ true) (l
 
   pub reach_edges : InsideEdges t
   reach_edges = record {
-    above = lt_true lower_edge.0 number (low_end (plus t) (less t) (plus (fin true 75 (pos 1))) (less (fin true 75 (pos 1))) (plus slow_from) (less slow_from) S lower_edge.1 lower_edge.2 ends.4 ends.5 S_pos (units_of_le ends.1 number low));
-    below = lt_true number upper_edge.0 (high_end (plus t) (less t) (plus (fin false 1 (pos 7))) (less (fin false 1 (pos 7))) (plus slow_to) (less slow_to) S upper_edge.1 upper_edge.2 ends.2 S_pos (units_of_le number ends.0 high));
+    above = lt_true lower_edge_units.0 number (low_end (plus t) (less t) (plus lower_edge) (less lower_edge) (plus slow_from) (less slow_from) S lower_edge_units.1 lower_edge_units.2 ends.4 ends.5 S_pos (units_of_le ends.1 number low));
+    below = lt_true number upper_edge_units.0 (high_end (plus t) (less t) (plus upper_edge) (less upper_edge) (plus slow_to) (less slow_to) S upper_edge_units.1 upper_edge_units.2 ends.2 S_pos (units_of_le number ends.0 high));
   }
     where
       low_end : (p n c d q m s : ℕ) → c ≡ 0 → d ≡ 150 * 2 ^ 53 * s → q ≡ 0 → m ≡ 299 * 2 ^ 52 * s → 0 < s → q + n ≤ p + m → c + n < p + d
@@ -147,16 +146,16 @@ module _ (t : Float) (f : T (fits binary64 t)) (high : le t slow_to ≡ true) (l
   unfolding rest_of
   rest_fits = sub-fits binary64 (part_of t) _
 
-  pub wide_bounds : clear_of_switches switch_gap (part_of t) (rest_of t) ≡ true → Bound S (2 ^ 52 - 2 ^ 26) (part_of t) × Bound S (2 ^ 47 - 2 ^ 26) (rest_of t)
+  pub wide_bounds : clear_of_switches slow_switch_gap (part_of t) (rest_of t) ≡ true → Bound S (2 ^ 52 - 2 ^ 26) (part_of t) × Bound S (2 ^ 47 - 2 ^ 26) (rest_of t)
   unfolding of_bits sub neg
   wide_bounds e =
-      let o = four (le (part_of t) (part_end switch_gap)) (le (neg (part_end switch_gap)) (part_of t)) (le (rest_of t) (rest_end switch_gap)) (le (neg (rest_end switch_gap)) (rest_of t)) e in (
-        end_bound (2 ^ 52 - 2 ^ 26) (part_end switch_gap) most_part (of_tests (part_of t) (neg (part_end switch_gap)) (part_end switch_gap) part_fits tt tt o.1 o.0) o.0 o.1,
-        end_bound (2 ^ 47 - 2 ^ 26) (rest_end switch_gap) most_rest (of_tests (rest_of t) (neg (rest_end switch_gap)) (rest_end switch_gap) rest_fits tt tt o.3 o.2) o.2 o.3,
+      let o = four (le (part_of t) (part_end slow_switch_gap)) (le (neg (part_end slow_switch_gap)) (part_of t)) (le (rest_of t) (rest_end slow_switch_gap)) (le (neg (rest_end slow_switch_gap)) (rest_of t)) e in (
+        end_bound (2 ^ 52 - 2 ^ 26) (part_end slow_switch_gap) most_part (of_tests (part_of t) (neg (part_end slow_switch_gap)) (part_end slow_switch_gap) part_fits tt tt o.1 o.0) o.0 o.1,
+        end_bound (2 ^ 47 - 2 ^ 26) (rest_end slow_switch_gap) most_rest (of_tests (rest_of t) (neg (rest_end slow_switch_gap)) (rest_end slow_switch_gap) rest_fits tt tt o.3 o.2) o.2 o.3,
       )
     where
-      most_part : Bound S (2 ^ 52 - 2 ^ 26) (part_end switch_gap)
-      most_part = unfold of_bits fits sub in tested (2 ^ 52 - 2 ^ 26) (part_end switch_gap) tt
+      most_part : Bound S (2 ^ 52 - 2 ^ 26) (part_end slow_switch_gap)
+      most_part = unfold of_bits fits sub in tested (2 ^ 52 - 2 ^ 26) (part_end slow_switch_gap) tt
 
-      most_rest : Bound S (2 ^ 47 - 2 ^ 26) (rest_end switch_gap)
-      most_rest = unfold of_bits fits sub in tested (2 ^ 47 - 2 ^ 26) (rest_end switch_gap) tt
+      most_rest : Bound S (2 ^ 47 - 2 ^ 26) (rest_end slow_switch_gap)
+      most_rest = unfold of_bits fits sub in tested (2 ^ 47 - 2 ^ 26) (rest_end slow_switch_gap) tt

@@ -19,9 +19,10 @@ use Rattle.bounds.proofs.Nearest.{sign_below}
 use Rattle.filter.specs.Plain.{plain_factor, plain_log2p1, part_of, rest_of, plain_pattern, clear_of_switches}
 use Rattle.filter.proofs.Factor.{plain_factor_lem}
 use Rattle.filter.proofs.Times.{single}
-use Rattle.slow_filter.specs.Subnormal.{subnormal_found}
+use Rattle.fast_path.specs.Scaling.{scaled}
+use Rattle.slow_filter.specs.Subnormal.{rounded_subnormal}
 use Rattle.slow_filter.specs.NearOne.{near_one_found}
-use Rattle.slow_filter.specs.Plain.{switch_gap, subnormal_power, kept_from, plain_log, in_reach, next_to_one, plain_slow}
+use Rattle.slow_filter.specs.Plain.{slow_switch_gap, subnormal_power, kept_from, plain_log, in_reach, next_to_one, plain_slow}
 use Rattle.slow_filter.proofs.LogOwn.{LogOwn}
 use Rattle.slow_filter.proofs.Accurate.{kept_own, times_beside, times_fine}
 use Rattle.slow_filter.proofs.Tiny.{tiny_own}
@@ -67,7 +68,7 @@ module _ (x y : Float) (fx : T (fits binary32 x)) (px : T (finite x)) (hx : T (l
 
   -- ---- below the normal f32s
   module _ (r : Reached y t') where
-    by_power : (v : Float) → clear_of_switches switch_gap (part_of t') (rest_of t') ≡ true → subnormal_found (plain_pattern t') (to_signed 63 (nearest_whole t')) ≡ Some v → v ≡ compoundf_accurate x y
+    by_power : (v : Float) → clear_of_switches slow_switch_gap (part_of t') (rest_of t') ≡ true → rounded_subnormal (scaled (plain_pattern t') (to_signed 63 (nearest_whole t'))) ≡ Some v → v ≡ compoundf_accurate x y
     by_power v e f =
         let b = reach_bound t' held r.high r.low in
         let s = times_beside (own (reach_some t' held r.high r.low)) (single y fy py) b in
@@ -77,9 +78,9 @@ module _ (x y : Float) (fx : T (fits binary32 x)) (px : T (finite x)) (hx : T (l
 
     below : (v : Float) → subnormal_power t' ≡ Some v → v ≡ compoundf_accurate x y
     unfolding subnormal_power
-    below v e = go (clear_of_switches switch_gap (part_of t') (rest_of t')) refl e
+    below v e = go (clear_of_switches slow_switch_gap (part_of t') (rest_of t')) refl e
       where
-        go : (q : Bool) → clear_of_switches switch_gap (part_of t') (rest_of t') ≡ q → cond q (subnormal_found (plain_pattern t') (to_signed 63 (nearest_whole t'))) None ≡ Some v → v ≡ compoundf_accurate x y
+        go : (q : Bool) → clear_of_switches slow_switch_gap (part_of t') (rest_of t') ≡ q → cond q (rounded_subnormal (scaled (plain_pattern t') (to_signed 63 (nearest_whole t')))) None ≡ Some v → v ≡ compoundf_accurate x y
         go true g e = by_power v g e
         go false g e = cc
 

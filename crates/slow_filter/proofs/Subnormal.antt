@@ -11,7 +11,8 @@ use Rattle.floats.proofs.Laws.Narrow.{low_finite, low_sum_over, low_pattern, pat
 use Rattle.floats.proofs.Laws.Sums.{sum_patterns_mono}
 use Rattle.fast_path.specs.Scaling.{scaled}
 use Rattle.filter.proofs.Power.{Unscaled}
-use Rattle.slow_filter.specs.Subnormal.{BelowNormal, rounded_subnormal, subnormal_found}
+use Rattle.slow_filter.specs.Subnormal.{rounded_subnormal}
+use Rattle.slow_filter.proofs.BelowNormal.{BelowNormal}
 
 -- ---- a pattern from 1/2 to 2, scaled by 2^k for a k from -150 to -127: nothing wraps
 scaled_is : (b n : ℕ) → Unscaled b → n < 150 → scaled b (negsuc n) ≡ b - suc n * 2 ^ 52
@@ -92,7 +93,6 @@ narrows w w' v p q g h found =
     let o = cond_some (eqb (subnormal_sum (w' - 2 ^ 25)) (subnormal_sum (w' + 2 ^ 25))) _ v found in
     narrowed_is w p.most ∙ ap (λ (s : ℕ). of_bits binary32 (s - 0x39e0000000000000)) (sum_same w w' p q g h (eqb-true _ _ o.0)) ∙ o.1
 
-pub subnormal : (b b' : ℕ) (k : ℤ) (v : Float) → Unscaled b → Unscaled b' → b ≤ b' + 2 ^ 25 → b' ≤ b + 2 ^ 25 → BelowNormal k → subnormal_found b' k ≡ Some v → narrowed (f64 (scaled b k)) ≡ v
-unfolding subnormal_found
+pub subnormal : (b b' : ℕ) (k : ℤ) (v : Float) → Unscaled b → Unscaled b' → b ≤ b' + 2 ^ 25 → b' ≤ b + 2 ^ 25 → BelowNormal k → rounded_subnormal (scaled b' k) ≡ Some v → narrowed (f64 (scaled b k)) ≡ v
 subnormal b b' k v u u' g h n found =
     narrows (scaled b k) (scaled b' k) v (scaled_below b k u n) (scaled_below b' k u' n) (scaled_near b b' k u u' n g) (scaled_near b' b k u' u n h) found

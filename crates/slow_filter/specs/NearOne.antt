@@ -11,10 +11,10 @@ unfoldable pub near_one_power : Float → Float
 near_one_power z = q2 0 ⊕ (q2 1 ⊕ (q2 3 ⊕ q2 5 ⊗ z) ⊗ z) ⊗ z
 
 -- how far from every midpoint of two f32s its pattern has to be
-abbrev pub margin : ℕ
-margin = 8
+abbrev pub near_one_margin : ℕ
+near_one_margin = 8
 
 -- |t| from 2^-25 to 2^-16 (a smaller |t| would do as well): its pattern, further than that from every midpoint, is
 -- rounded to 24 digits; else nothing is sure
 unfoldable pub near_one_found : Float → Option Float
-near_one_found t = narrowed_pattern margin (to_bits binary64 (near_one_power t))
+near_one_found t = narrowed_pattern near_one_margin (to_bits binary64 (near_one_power t))

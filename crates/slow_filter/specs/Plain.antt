@@ -7,18 +7,22 @@ use Rattle.floats.specs.Operations.{◌⊗◌, f64}
 use Rattle.floats.specs.Narrowing.{nearest_whole}
 use Rattle.floats.specs.OnBits.{absolute}
 use Rattle.special.specs.Special.{one}
+use Rattle.fast_path.specs.Scaling.{scaled}
 use Rattle.filter.specs.Plain.{plain_factor, plain_log2p1, part_of, rest_of, plain_pattern, clear_of_switches}
 use Rattle.filter.specs.Plain.{is_below_normal}
-use Rattle.slow_filter.specs.Subnormal.{subnormal_found}
+use Rattle.slow_filter.specs.Subnormal.{rounded_subnormal}
 use Rattle.slow_filter.specs.NearOne.{near_one_found}
 
 -- k and the index stay the same within 2^-27
-abbrev pub switch_gap : Float
-switch_gap = f64 0x3e40000000000000
+abbrev pub slow_switch_gap : Float
+slow_switch_gap = f64 0x3e40000000000000
 
 -- t from -149.5 to -128
 unfoldable pub subnormal_power : Float → Option Float
-subnormal_power t = cond (clear_of_switches switch_gap (part_of t) (rest_of t)) (subnormal_found (plain_pattern t) (to_signed 63 (nearest_whole t))) None
+subnormal_power t =
+    let k = to_signed 63 (nearest_whole t) in
+    cond (clear_of_switches slow_switch_gap (part_of t) (rest_of t)) (rounded_subnormal (scaled (plain_pattern t) k))
+    None
 
 -- from this size on 1 + x keeps x
 abbrev pub kept_from : Float
@@ -29,18 +33,18 @@ unfoldable pub plain_log : Float → Float
 plain_log x = cond (le kept_from (absolute x)) (plain_log2p1 x) (x ⊗ plain_factor x)
 
 -- whether the plain evaluation is near enough below the normal f32s: y is not 1, and t is from -149.5 to -128
-unfoldable pub in_reach : Float → Float → Bool
+abbrev pub in_reach : Float → Float → Bool
 in_reach y t = ne y one && is_below_normal t
 
 -- and next to 1: y is not 1, and |t| is from 2^-25 to 2^-16
-abbrev pub next_from : Float
-next_from = fin false 1 (negsuc 24)
+abbrev pub slow_next_from : Float
+slow_next_from = fin false 1 (negsuc 24)
 
-abbrev pub next_to : Float
-next_to = fin false 1 (negsuc 15)
+abbrev pub slow_next_to : Float
+slow_next_to = fin false 1 (negsuc 15)
 
 unfoldable pub next_to_one : Float → Float → Bool
-next_to_one y t = ne y one && (le (absolute t) next_to && le next_from (absolute t))
+next_to_one y t = ne y one && (le (absolute t) slow_next_to && le slow_next_from (absolute t))
 
 -- what is found of x and y
 unfoldable pub plain_slow : Float → Float → Option Float

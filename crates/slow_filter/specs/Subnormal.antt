@@ -1,20 +1,13 @@
 -- Rounding the plain value below the normal f32s. It stands in no document; the theorem says when the slow path's
 -- value rounds to the same (`subnormal` in proofs/Subnormal.antt).
-use Rattle.std.specs.Prelude.{ℕ, ◌+◌, ◌-◌, ◌^◌, ◌≤◌, ◌<◌, cond, eqb, Option, Some, None, ℤ, pos, negsuc, Float}
+use Rattle.std.specs.Prelude.{ℕ, ◌+◌, ◌-◌, ◌^◌, cond, eqb, Option, Some, None, Float}
 use Rattle.std.specs.Float.{binary32}
 use Rattle.std.specs.Float.Ieee.{of_bits}
 use Rattle.floats.specs.Narrowing.{subnormal_sum}
-use Rattle.fast_path.specs.Scaling.{scaled}
-
--- k is from -150 to -127: a value from 1/2 to 2 times 2^k is from 2^-151 to 2^-126
-abbrev pub BelowNormal : ℤ → Type 0
-BelowNormal (pos n) = ⊥
-BelowNormal (negsuc n) = (126 ≤ n) × (n < 150)
 
 -- the pattern w, scaled: where 2^25 less and 2^25 more are rounded to one f32, it is the answer; else nothing is sure
 unfoldable pub rounded_subnormal : ℕ → Option Float
-rounded_subnormal w = cond (eqb (subnormal_sum (w - 2 ^ 25)) (subnormal_sum (w + 2 ^ 25))) (Some (of_bits binary32 (subnormal_sum (w - 2 ^ 25) - 0x39e0000000000000))) None
-
--- for the pattern b before it is scaled
-unfoldable pub subnormal_found : ℕ → ℤ → Option Float
-subnormal_found b k = rounded_subnormal (scaled b k)
+rounded_subnormal w =
+    let low = subnormal_sum (w - 2 ^ 25) in
+    let high = subnormal_sum (w + 2 ^ 25) in
+    cond (eqb low high) (Some (of_bits binary32 (low - 0x39e0000000000000))) None

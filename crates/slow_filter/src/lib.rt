@@ -27,18 +27,18 @@ use tables::{PolyQ2, Table};
 
 // 2^-27: further than this from a switch of k or of the index, the slow path's own t is on the same side
 // of it.
-const SWITCH_GAP: f64 = f64::from_bits(0x3e40_0000_0000_0000);
+const SLOW_SWITCH_GAP: f64 = f64::from_bits(0x3e40_0000_0000_0000);
 
 // A pattern next to 1 that is further than this from every midpoint of two f32s settles the answer.
-const MARGIN: u64 = 8;
+const NEAR_ONE_MARGIN: u64 = 8;
 
 // 2^-29: below, 1 + x does not keep x.
 const KEPT_FROM: f64 = f64::from_bits(0x3e20_0000_0000_0000);
 
 // 2^-25 and 2^-16: a t of such a size is next to 1.
-const NEXT_FROM: f64 = f64::from_bits(0x3e60_0000_0000_0000);
+const SLOW_NEXT_FROM: f64 = f64::from_bits(0x3e60_0000_0000_0000);
 
-const NEXT_TO: f64 = f64::from_bits(0x3ef0_0000_0000_0000);
+const SLOW_NEXT_TO: f64 = f64::from_bits(0x3ef0_0000_0000_0000);
 
 // The answer of the scaled pattern w, from 2^-151 to 2^-126, where no midpoint of two f32s is within 2^25
 // of it.
@@ -58,13 +58,13 @@ fn rounded_subnormal(w: u64) -> Option<f32>
 }
 
 // For t from -149.5 to -128.
-#[tactic(auto, using(crate::proofs::Split::split), unfolding(crate::specs::Plain::subnormal_power, crate::specs::Subnormal::subnormal_found, filter::specs::Plain::plain_pattern))]
+#[tactic(auto, using(crate::proofs::Split::split), unfolding(crate::specs::Plain::subnormal_power))]
 fn subnormal_power(t: f64) -> Option<f32>
     requires t_most { T (le t slow_to) }
     requires t_least { T (le slow_from t) }
     ensures { result ≡ plain.subnormal_power t }
 {
-    rounded_subnormal(Split::of(t).pattern(SWITCH_GAP)?)
+    rounded_subnormal(Split::of(t).pattern(SLOW_SWITCH_GAP)?)
 }
 
 // Near 2^z for |z| <= 2^-16.
@@ -80,10 +80,10 @@ fn near_one_power(z: f64) -> f64
 // For |t| at most 2^-16.
 #[tactic(auto, unfolding(crate::specs::NearOne::near_one_found))]
 fn near_one_found(t: f64) -> Option<f32>
-    requires { T (le (absolute t) plain.next_to) }
+    requires { T (le (absolute t) plain.slow_next_to) }
     ensures { result ≡ near.near_one_found t }
 {
-    narrowed_pattern(f64::to_bits(near_one_power(t)), MARGIN)
+    narrowed_pattern(f64::to_bits(near_one_power(t)), NEAR_ONE_MARGIN)
 }
 
 // The plain logarithm of 1 + x.
@@ -99,7 +99,6 @@ fn plain_log(base: Base) -> f64
 }
 
 // Whether the plain evaluation is near enough below the normal f32s.
-#[tactic(auto, unfolding(crate::specs::Plain::in_reach))]
 fn in_reach(y: f64, t: f64) -> bool
     ensures { result ≡ plain.in_reach y t }
 {
@@ -111,12 +110,12 @@ fn next_to_one(y: f64, t: f64) -> bool
     ensures { result ≡ plain.next_to_one y t }
 {
     let size = t.abs();
-    let between = (size <= NEXT_TO) & (size >= NEXT_FROM);
+    let between = (size <= SLOW_NEXT_TO) & (size >= SLOW_NEXT_FROM);
     (y != 1.0) & between
 }
 
 // What the plain evaluation finds of x and y.
-#[tactic(auto, unfolding(crate::specs::Plain::plain_slow, crate::specs::Plain::in_reach, crate::specs::Plain::next_to_one))]
+#[tactic(auto, unfolding(crate::specs::Plain::plain_slow, crate::specs::Plain::next_to_one))]
 fn plain_slow(pair: Operands) -> Option<f32>
     ensures { result ≡ plain.plain_slow pair.x pair.y }
 {

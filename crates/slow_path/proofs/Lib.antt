@@ -9,3 +9,4 @@ pub mod LowPart
 pub mod OnePlusParts
 pub mod LogCases
 pub mod Exponent
+pub mod Steps

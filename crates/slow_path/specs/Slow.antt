@@ -113,7 +113,9 @@ clamped_index r = min (power_index r) 32
 
 -- "in the scaling a k past 1000 or -1000 counts as that end and a NaN k as 0", which is what `to_signed` makes of a NaN
 unfoldable pub clamped_k : Float → ℤ
-clamped_k k = cond (lt k (fin true 125 (pos 3))) (negsuc 999) (cond (lt (fin false 125 (pos 3)) k) (pos 1000) (to_signed 63 k))
+clamped_k k =
+    cond (lt k (fin true 125 (pos 3))) (negsuc 999)
+    (cond (lt (fin false 125 (pos 3)) k) (pos 1000) (to_signed 63 k))
 
 -- the source's ERR: the bound on the error of q.hi + q.lo, where `small` is false and where it is true
 unfoldable pub err_of : Bool → Float

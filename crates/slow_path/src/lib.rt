@@ -304,7 +304,7 @@ fn exp2_away(t: DoubleDouble, k: f64) -> f32
 const ROUNDS_TO_ONE: f64 = f64::from_bits(0x3e67_1547_6af0_d4c8);
 
 // Whether 2^h rounds to 1, k being the nearest whole value to h.
-#[tactic(auto, using(std::proofs::lemmas::Grind::common_steps, floats::proofs::Laws::Magnitude::sign_off), unfolding(crate::specs::Slow::is_near_one))]
+#[tactic(auto, using(crate::proofs::Steps::sizes), unfolding(crate::specs::Slow::is_near_one))]
 fn is_near_one(k: f64, h: f64) -> bool
     ensures { result ≡ spec.is_near_one k h }
 {
@@ -325,7 +325,7 @@ fn exp2_accurate(t: DoubleDouble) -> f32
 }
 
 // (1 + x)^y for the route `slow`, y being the f64 of an f32.
-#[tactic(auto, using(std::proofs::lemmas::Grind::common_steps, floats::proofs::Laws::Narrow::narrowed_same), unfolding(crate::specs::Slow::compoundf_accurate))]
+#[tactic(auto, using(crate::proofs::Steps::narrowings), unfolding(crate::specs::Slow::compoundf_accurate))]
 pub fn compoundf_accurate(base: Base, y: f64) -> f32
     ensures { result ≡ spec.compoundf_accurate base.x y }
 {

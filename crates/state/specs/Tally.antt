@@ -2,11 +2,11 @@
 use Rattle.std.specs.Prelude.{ℕ, ◌+◌}
 use Rattle.state.specs.declared.Tallies.{Tallies}
 
--- no line
-abbrev pub none : Tallies
-none = record { rule = 0; whole = 0; edge = 0; fast = 0; slow = 0; bad = 0 }
+-- "all zero": those of no line
+abbrev pub zero_tallies : Tallies
+zero_tallies = record { rule = 0; whole = 0; edge = 0; fast = 0; slow = 0; bad = 0 }
 
--- two counts together
+-- the tallies of two lists of lines together
 unfoldable pub plus : Tallies → Tallies → Tallies
 plus t u =
     record {

@@ -24,7 +24,7 @@ impl<'a> Piece<'a> {
 
     // The line that is held, carried on by the bytes of the piece from its position up to the next line
     // feed, or up to the end. The position goes there.
-    #[tactic(auto, using(scan::proofs::Cutting::line_end_within), unfolding(crate::specs::Carry::carry_on, crate::specs::Carry::carry_end))]
+    #[tactic(auto, using(scan::proofs::Cutting::line_end_within), unfolding(crate::specs::Carry::carry_on))]
     pub fn carry(&mut self, held: Held) -> Held
         requires { self.old.at ≤ length self.old.bytes.now }
         ensures held { result ≡ carry_on held self.old.bytes.now self.old.at }

@@ -1,7 +1,7 @@
 // The unfinished line, held in a tail.
 ghost use Rattle.std.specs.Prelude.{◌≡◌, ◌<◌, ◌≤◌, [], ◌++◌, length, MatchOption};
 ghost use Rattle.lines.specs.Format.{longest};
-ghost use Rattle.state.specs.Holding.{hold, carried, kept, Sound};
+ghost use Rattle.state.specs.Holding.{tail_of, held_line, as_held, Sound};
 
 use crate::{OVER_LONG, Tail};
 use lines::LONGEST;
@@ -16,15 +16,15 @@ pub struct Held {
 impl Model for Held {
     ghost use Rattle.std.specs.Prelude.{ℕ, List};
     ghost use Rattle.std.proofs.Common.{sym, ap};
-    ghost use Rattle.state.specs.Holding.{hold, carried, Sound};
+    ghost use Rattle.state.specs.Holding.{tail_of, held_line, Sound};
 
     ghost Value = { List ℕ };
 
-    ghost view = { λ h. carried h.tail };
+    ghost view = { λ h. held_line h.tail };
 
     ghost invariant = { λ h. Sound h.tail };
 
-    ghost inverse = { λ l. record { tail = hold l } };
+    ghost inverse = { λ l. record { tail = tail_of l } };
 
     ghost inverse_ok = { λ h s. ap (λ t. record { tail = t }) (sym s) };
 }
@@ -33,7 +33,7 @@ impl Held {
     // The line that a tail holds.
     pub fn of(tail: Tail) -> Held
         requires { Sound tail }
-        ensures { result ≡ carried tail }
+        ensures { result ≡ held_line tail }
     {
         Held { tail }
     }
@@ -52,7 +52,7 @@ impl Held {
 
     // The same line with a part more.
     pub fn extended(self, part: &[u8]) -> Held
-        ensures { result ≡ kept (self ++ part.now) }
+        ensures { result ≡ as_held (self ++ part.now) }
     {
         let Tail { mut bytes, count } = self.tail;
         let start = count as usize;
@@ -76,7 +76,8 @@ impl Held {
 
     // Its bytes, and none where it is over-long.
     pub fn line(&self) -> Option<&[u8]>
-        ensures { MatchOption result (longest < length self.now) (λ line. (line.now ≡ self.now) × (length self.now ≤ longest)) }
+        ensures { MatchOption result (longest < length self.now)
+            (λ line. (line.now ≡ self.now) × (length self.now ≤ longest)) }
     {
         let tail = &self.tail;
         tail.bytes.get(..tail.count as usize)
@@ -91,7 +92,7 @@ impl Held {
 }
 
 impl From<Held> for Tail {
-    ghost from_gives = { λ held tail. tail ≡ hold held };
+    ghost from_gives = { λ held tail. tail ≡ tail_of held };
 
     fn from(held: Held) -> Tail {
         held.tail

@@ -54,7 +54,7 @@ pub struct State {
 
 impl State {
     // The state before the first piece.
-    #[tactic(auto, unfolding(crate::specs::Holding::hold))]
+    #[tactic(auto, unfolding(crate::specs::Holding::tail_of))]
     pub fn fresh() -> State
         ensures { result ≡ spec.fresh }
     {

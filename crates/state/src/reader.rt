@@ -1,7 +1,7 @@
 // A state that is not broken.
 ghost use Rattle.std.specs.Prelude.{◌≡◌, cond};
 ghost use Rattle.state.specs.Tally.{total};
-ghost use Rattle.state.specs.Holding.{carried, broken, Sound};
+ghost use Rattle.state.specs.Holding.{held_line, broken, Sound};
 
 use crate::{Held, State, Tallies};
 use std::marker::Model;
@@ -51,7 +51,7 @@ impl Reader {
 
     // The line that its tail holds.
     pub fn held(self) -> Held
-        ensures { result ≡ carried self.tail }
+        ensures { result ≡ held_line self.tail }
     {
         Held::of(self.state.tail)
     }

@@ -9,7 +9,7 @@ use Rattle.std.proofs.lemmas.Grind.{common_steps}
 use Rattle.std.specs.Prelude.{Option, Some, None, IfNone, IfSome}
 use Rattle.std.specs.Option.{unwrap_or}
 use Rattle.text.specs.Bytes.{all}
-use Rattle.text.specs.Digits.{glyph, digits, places, decimal, hex, is_decimal, is_hex, digit_value, value, value_from}
+use Rattle.text.specs.Digits.{glyph, digits, places, decimal, hex, is_decimal, is_hex, digit_value, digits_value, value_from}
 
 -- both tests of a conjunction hold
 pub both : (a b : Bool) → (a && b) ≡ true → (a ≡ true) × (b ≡ true)
@@ -72,8 +72,8 @@ unfolding value_from
 value_append base m [] ys = refl
 value_append base m (b ∷ xs) ys = value_append base (m * base + digit_value b) xs ys
 
-value_more : (base : ℕ) (xs : List ℕ) (b : ℕ) → value base (xs ++ (b ∷ [])) ≡ value base xs * base + digit_value b
-unfolding value value_from
+value_more : (base : ℕ) (xs : List ℕ) (b : ℕ) → digits_value base (xs ++ (b ∷ [])) ≡ digits_value base xs * base + digit_value b
+unfolding digits_value value_from
 value_more base xs b = value_append base 0 xs (b ∷ [])
 
 -- a list of k + 1 digits: the first k and the last
@@ -101,12 +101,12 @@ module _ {base : ℕ} {test : ℕ → Bool} (B : Base base test) where
   remainder : (v : ℕ) {d : ℕ} → d < base → (v * base + d) % base ≡ d
   remainder v {d} h = mul-add-mod_self_right v base d ∙ mod-eq_of_lt h
 
-  value_ended : {ds : List ℕ} {k : ℕ} → Ended test ds k → value base ds ≡ value base (take k ds) * base + digit_value (get_or ds k 0)
-  value_ended {ds} {k} e = ap (value base) e.shape ∙ value_more base (take k ds) (get_or ds k 0)
+  value_ended : {ds : List ℕ} {k : ℕ} → Ended test ds k → digits_value base ds ≡ digits_value base (take k ds) * base + digit_value (get_or ds k 0)
+  value_ended {ds} {k} e = ap (digits_value base) e.shape ∙ value_more base (take k ds) (get_or ds k 0)
 
   -- the value of k digits is below the base's k-th power
-  pub value_below : (k : ℕ) (ds : List ℕ) → length ds ≡ k → all test ds ≡ true → value base ds < base ^ k
-  unfolding value value_from
+  pub value_below : (k : ℕ) (ds : List ℕ) → length ds ≡ k → all test ds ≡ true → digits_value base ds < base ^ k
+  unfolding digits_value value_from
   value_below zero [] h a = rw pow-zero (omega arith)
   value_below zero (b ∷ ds) h a = absurd (omega arith)
   value_below (suc k) ds h a =
@@ -117,17 +117,17 @@ module _ {base : ℕ} {test : ℕ → Bool} (B : Base base test) where
       next {v} {d} {m} p q = omega (arith, q, mul-le-mul_right base (add-one-le p), add-mul v 1 base)
 
   -- the digits of the value of digits are these
-  pub digits_value : (k : ℕ) (ds : List ℕ) → length ds ≡ k → all test ds ≡ true → digits base k (value base ds) ≡ ds
+  pub digits_of_value : (k : ℕ) (ds : List ℕ) → length ds ≡ k → all test ds ≡ true → digits base k (digits_value base ds) ≡ ds
   unfolding digits
-  digits_value zero ds h a = search (rules, common_steps)
-  digits_value (suc k) ds h a =
+  digits_of_value zero ds h a = search (rules, common_steps)
+  digits_of_value (suc k) ds h a =
       let e = ended test ds k h a in
       let d : digit_value (get_or ds k 0) < base = B.bound (get_or ds k 0) e.last in
       rw (
         value_ended e,
-        quotient (value base (take k ds)) d,
-        remainder (value base (take k ds)) d,
-        digits_value k (take k ds) e.long e.front,
+        quotient (digits_value base (take k ds)) d,
+        remainder (digits_value base (take k ds)) d,
+        digits_of_value k (take k ds) e.long e.front,
         B.glyph_value (get_or ds k 0) e.last,
       )
       (sym e.shape)
@@ -141,13 +141,13 @@ module _ {base : ℕ} {test : ℕ → Bool} (B : Base base test) where
       ∙ rw (all_digits k (n / base), B.is_digit (n % base) (mod-lt n positive)) refl
 
   -- and their value is the number, if they are enough
-  pub value_digits : (k n : ℕ) → n < base ^ k → value base (digits base k n) ≡ n
-  unfolding digits value value_from
-  value_digits zero n h = omega (arith, pow-zero base)
-  value_digits (suc k) n h =
+  pub value_of_digits : (k n : ℕ) → n < base ^ k → digits_value base (digits base k n) ≡ n
+  unfolding digits digits_value value_from
+  value_of_digits zero n h = omega (arith, pow-zero base)
+  value_of_digits (suc k) n h =
       value_more base (digits base k (n / base)) (glyph (n % base))
       ∙ rw
-      (value_digits k (n / base) ((div-lt_iff_lt-mul positive).1 (rw (pow-suc base k) at h)), value_glyph (n % base) (omega (arith, mod-lt n positive, B.below)))
+      (value_of_digits k (n / base) ((div-lt_iff_lt-mul positive).1 (rw (pow-suc base k) at h)), value_glyph (n % base) (omega (arith, mod-lt n positive, B.below)))
       (div-add-mod' n base)
 
 -- ---- places
@@ -229,13 +229,13 @@ at_least n [] = omega arith
 at_least n (b ∷ ds) = omega (arith, at_least (n * 10 + digit_value b) ds)
 
 -- so decimal digits without a zero first say a number above 0
-above_zero : (ds : List ℕ) → 0 < length ds → all is_decimal ds ≡ true → (get_or ds 0 0 ≡ 48 → ⊥) → 0 < value 10 ds
-unfolding all value value_from is_decimal digit_value
+above_zero : (ds : List ℕ) → 0 < length ds → all is_decimal ds ≡ true → (get_or ds 0 0 ≡ 48 → ⊥) → 0 < digits_value 10 ds
+unfolding all digits_value value_from is_decimal digit_value
 above_zero [] h a f = absurd (omega arith)
 above_zero (b ∷ ds) h a f = let e = at_least (0 * 10 + digit_value b) ds in grind (arith, nat_tests)
 
 -- and k + 1 of them a number from 10^k on
-pub least : (k : ℕ) (ds : List ℕ) → length ds ≡ suc k → all is_decimal ds ≡ true → (get_or ds 0 0 ≡ 48 → ⊥) → 10 ^ k ≤ value 10 ds
+pub least : (k : ℕ) (ds : List ℕ) → length ds ≡ suc k → all is_decimal ds ≡ true → (get_or ds 0 0 ≡ 48 → ⊥) → 10 ^ k ≤ digits_value 10 ds
 least zero ds h a f = above_zero ds (omega arith) a f
 least (suc k) ds h a f =
     let e = ended is_decimal ds (suc k) h a in
@@ -260,10 +260,10 @@ unfolding hex
 all_hex n = all_digits sixteen 8 n
 
 -- a pattern is the value of its hexadecimal digits, and eight of these are a pattern's
-pub value_hex : (n : ℕ) → n < 2 ^ 32 → value 16 (hex n) ≡ n
+pub value_hex : (n : ℕ) → n < 2 ^ 32 → digits_value 16 (hex n) ≡ n
 unfolding hex
-value_hex n h = value_digits sixteen 8 n h
+value_hex n h = value_of_digits sixteen 8 n h
 
-pub hex_value : (hs : List ℕ) → length hs ≡ 8 → all is_hex hs ≡ true → hex (value 16 hs) ≡ hs
+pub hex_value : (hs : List ℕ) → length hs ≡ 8 → all is_hex hs ≡ true → hex (digits_value 16 hs) ≡ hs
 unfolding hex
-hex_value hs h a = digits_value sixteen 8 hs h a
+hex_value hs h a = digits_of_value sixteen 8 hs h a

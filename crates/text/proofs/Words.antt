@@ -13,7 +13,7 @@ use lib.Seq.{drop-cons}
 use Rattle.std.proofs.lemmas.Bool.Decides.{nat_tests}
 use Rattle.std.specs.Int.{from_le_bytes}
 use Rattle.text.specs.Bytes.{all}
-use Rattle.text.specs.Digits.{is_decimal, is_hex, digit_value, value, value_from}
+use Rattle.text.specs.Digits.{is_decimal, is_hex, digit_value, digits_value, value_from}
 use Rattle.text.proofs.Numerals.{both, sixteen}
 
 -- ---- bytes read as one number
@@ -144,12 +144,12 @@ module _ (a b c d : ℕ) (small : Below 256 (a ∷ b ∷ c ∷ d ∷ [])) where
       size : (x y z : ℕ) → x < 256 → y < 256 → z < 256 → sums 256 x y z < 0x100000000
       size x y z i j k = omega arith
 
-abbrev pub joined : ℕ → ℕ
-joined v = v % 0x100000000 * 65536 + v / 0x100000000
+abbrev pub eight_of : ℕ → ℕ
+eight_of v = v % 0x100000000 * 65536 + v / 0x100000000
 
-joined_of : (a b : ℕ) → a < 65536 → b < 65536 → joined (lowest_first 0x100000000 (a ∷ b ∷ [])) ≡ a * 65536 + b
+eight_of_lem : (a b : ℕ) → a < 65536 → b < 65536 → eight_of (lowest_first 0x100000000 (a ∷ b ∷ [])) ≡ a * 65536 + b
 unfolding lowest_first
-joined_of a b i j = omega arith
+eight_of_lem a b i j = omega arith
 
 -- ---- all steps
 -- n elements of a list, one by one from a place on
@@ -173,28 +173,28 @@ module _ (a b c d e f g h : ℕ) (small : Below 16 (a ∷ b ∷ c ∷ d ∷ e �
   unfolding lowest_first
   word_small = let (i, (j, (k, (l, (m, (n, (o, (p, q)))))))) = small in omega arith
 
-  joined_all : joined (fours_of (pairs_of (lowest_first 256 (a ∷ b ∷ c ∷ d ∷ e ∷ f ∷ g ∷ h ∷ []))))
+  eight_of_all : eight_of (fours_of (pairs_of (lowest_first 256 (a ∷ b ∷ c ∷ d ∷ e ∷ f ∷ g ∷ h ∷ []))))
       ≡ two 256 (two 16 a b) (two 16 c d) * 65536 + two 256 (two 16 e f) (two 16 g h)
-  joined_all =
+  eight_of_all =
       let (i, (j, (k, (l, (m, (n, (o, (p, q)))))))) = small in
       let ab : two 16 a b < 256 = pair_small a b i j in
       let cd : two 16 c d < 256 = pair_small c d k l in
       let ef : two 16 e f < 256 = pair_small e f m n in
       let gh : two 16 g h < 256 = pair_small g h o p in
-      ap (λ (v : ℕ). joined (fours_of v)) (pairs_of_lem a b c d e f g h small)
-      ∙ ap joined (fours_of_lem (two 16 a b) (two 16 c d) (two 16 e f) (two 16 g h) (ab, (cd, (ef, (gh, tt)))))
-      ∙ joined_of _ _ (four_small _ _ ab cd) (four_small _ _ ef gh)
+      ap (λ (v : ℕ). eight_of (fours_of v)) (pairs_of_lem a b c d e f g h small)
+      ∙ ap eight_of (fours_of_lem (two 16 a b) (two 16 c d) (two 16 e f) (two 16 g h) (ab, (cd, (ef, (gh, tt)))))
+      ∙ eight_of_lem _ _ (four_small _ _ ab cd) (four_small _ _ ef gh)
 
 -- the fours of the pairs, in the order in which the digits stand
 ordered : (a b c d e f g h : ℕ) → two 256 (two 16 a b) (two 16 c d) * 65536 + two 256 (two 16 e f) (two 16 g h)
     ≡ (((((((0 * 16 + a) * 16 + b) * 16 + c) * 16 + d) * 16 + e) * 16 + f) * 16 + g) * 16 + h
 ordered a b c d e f g h = omega arith
 
-said : (a b c d e f g h : ℕ)
+in_order : (a b c d e f g h : ℕ)
     → two 256 (two 16 (digit_value a) (digit_value b)) (two 16 (digit_value c) (digit_value d)) * 65536 + two 256 (two 16 (digit_value e) (digit_value f)) (two 16 (digit_value g) (digit_value h))
-    ≡ value 16 (a ∷ b ∷ c ∷ d ∷ e ∷ f ∷ g ∷ h ∷ [])
-unfolding value value_from
-said a b c d e f g h = ordered _ _ _ _ _ _ _ _
+    ≡ digits_value 16 (a ∷ b ∷ c ∷ d ∷ e ∷ f ∷ g ∷ h ∷ [])
+unfolding digits_value value_from
+in_order a b c d e f g h = ordered _ _ _ _ _ _ _ _
 
 -- the word of eight hexadecimal digits
 module _ (w : ℕ) (l : List ℕ) (e : w ≡ from_le_bytes w64 l) (eight : length l ≡ 8) (hex : all is_hex l ≡ true) where
@@ -216,5 +216,5 @@ module _ (w : ℕ) (l : List ℕ) (e : w ≡ from_le_bytes w64 l) (eight : lengt
   digits_small = rw word_of (word_small _ _ _ _ _ _ _ _ small)
 
   -- and come to the number that the digits say
-  pub number_of : joined (fours_of (pairs_of (digits_of w))) ≡ value 16 l
-  number_of = ap (λ (v : ℕ). joined (fours_of (pairs_of v))) word_of ∙ joined_all _ _ _ _ _ _ _ _ small ∙ said _ _ _ _ _ _ _ _ ∙ ap (value 16) (sym listed)
+  pub eight_digits : eight_of (fours_of (pairs_of (digits_of w))) ≡ digits_value 16 l
+  eight_digits = ap (λ (v : ℕ). eight_of (fours_of (pairs_of v))) word_of ∙ eight_of_all _ _ _ _ _ _ _ _ small ∙ in_order _ _ _ _ _ _ _ _ ∙ ap (digits_value 16) (sym listed)

@@ -42,5 +42,5 @@ value_from base n [] = n
 value_from base n (b ∷ l) = value_from base (n * base + digit_value b) l
 
 -- the value of digits, the highest first
-unfoldable pub value : ℕ → List ℕ → ℕ
-value base l = value_from base 0 l
+unfoldable pub digits_value : ℕ → List ℕ → ℕ
+digits_value base l = value_from base 0 l

@@ -2,7 +2,7 @@
 ghost use Rattle.std.specs.Prelude.{◌≡◌, true, cond};
 ghost use Rattle.std.specs.declared.option.Option.TheVariants.{Some, None};
 ghost use Rattle.text.specs.Bytes.{all};
-ghost use Rattle.text.specs.Digits.{is_hex, value};
+ghost use Rattle.text.specs.Digits.{is_hex, digits_value};
 
 // Whether a byte is a hexadecimal digit. The tests are joined without a branch, so that eight bytes
 // can be tested at once. The library's `is_ascii_hexdigit` takes capital letters too.
@@ -24,9 +24,9 @@ fn are_hex(digits: &[u8; 8]) -> bool
 // The number that eight hexadecimal digits say. All are turned to their values at once, the low half of
 // the code and 9 more for a letter; then two and two, four and four are joined. The library reads a
 // `str`, which the bytes would have to be made first, and one digit after another.
-fn number(digits: &[u8; 8]) -> u32
+fn digits_value(digits: &[u8; 8]) -> u32
     requires { all is_hex digits.now ≡ true }
-    ensures { result ≡ value 16 digits.now }
+    ensures { result ≡ digits_value 16 digits.now }
 {
     let w = u64::from_le_bytes(*digits);
     let values = (w & 0x0f0f_0f0f_0f0f_0f0f) + (w & 0x4040_4040_4040_4040) / 64 * 9;
@@ -38,10 +38,10 @@ fn number(digits: &[u8; 8]) -> u32
 // The number that eight hexadecimal digits say, and None where one of the eight is no digit. The
 // library's `from_str_radix` takes capital letters and a sign too.
 pub fn from_hex(digits: &[u8; 8]) -> Option<u32>
-    ensures { result ≡ cond (all is_hex digits.now) (Some (value 16 digits.now)) None }
+    ensures { result ≡ cond (all is_hex digits.now) (Some (digits_value 16 digits.now)) None }
 {
     if are_hex(digits) {
-        Some(number(digits))
+        Some(digits_value(digits))
     } else {
         None
     }

@@ -9,7 +9,7 @@ ghost use Rattle.totals.specs.Totals.{totals, end_line};
 use state::State;
 use text::{Decimal, Text};
 
-// Room for the totals and the end's line: 42 bytes of words, four of `end=`, two line feeds, and eight
+// Room for the totals and the end's line: 42 bytes of labels, four of `end=`, two line feeds, and eight
 // numbers of at most ten digits.
 pub const TOTALS: usize = 48 + 8 * 10;
 
@@ -17,13 +17,13 @@ pub const TOTALS: usize = 48 + 8 * 10;
 // answers how many bytes these are. A number of 0 says that there is none: C, which hands a number, has
 // no Option, and `End` of `fade` has the number 0 for it too, so that an Option would be made of a 0
 // here and taken apart again. State, number and output are three parameters, as C hands them.
-#[tactic(auto, using(text::proofs::Put::by_test, crate::proofs::Room::totals_most), unfolding(crate::specs::Totals::totals, crate::specs::Totals::end_line))]
+#[tactic(auto, using(crate::proofs::Room::totals_steps), unfolding(crate::specs::Totals::totals))]
 pub fn write_totals(state: State, end: u32, out: &mut [u8; TOTALS]) -> usize
     ensures value { result ≡ length (totals state ++ end_line end) }
     ensures out_after { out.new ≡ put out.old 0 (totals state ++ end_line end) }
 {
     let t = state.tallies;
-    let counts = [
+    let numbers = [
         ("lines=", Decimal(state.lines)),
         (" rule=", Decimal(t.rule)),
         (" whole=", Decimal(t.whole)),
@@ -33,5 +33,5 @@ pub fn write_totals(state: State, end: u32, out: &mut [u8; TOTALS]) -> usize
         (" bad=", Decimal(t.bad)),
     ];
     let end_line = (end != 0).then_some(("end=", Decimal(end), "\n"));
-    (counts, "\n", end_line).put(out, 0)
+    (numbers, "\n", end_line).put(out, 0)
 }

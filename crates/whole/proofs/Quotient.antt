@@ -14,9 +14,9 @@ use Rattle.floats.proofs.Laws.Tests.{first, second}
 use Rattle.floats.proofs.Laws.Units.{round_number}
 use Rattle.special.specs.Special as Special
 use Rattle.special.specs.Special.{one}
-use Rattle.whole.specs.Whole.{is_whole, squarings, power}
+use Rattle.whole.specs.Whole.{is_whole, squarings, whole_power}
 use Rattle.whole.proofs.Exponent.{number_y, integer_y}
-use Rattle.whole.proofs.Squaring.{factor}
+use Rattle.whole.proofs.Squaring.{turn_factor}
 
 -- ---- a value times itself and so on: what products keep, powers keep
 kept : (P : Float → Type 0) → ((a b : Float) → P a → P b → P (a ⊗ b)) → (turns n : ℕ) (s acc : Float) → P s → P acc → P (squarings turns n s acc)
@@ -29,15 +29,15 @@ kept P times (suc turns) n s acc p q = go (leb n 1) (eqb (n / 2 % 2) 1) (λ a r.
     go false true rest = rest (acc ⊗ (s ⊗ s)) (times acc (s ⊗ s) q (times s s p p))
     go false false rest = rest acc q
 
-power_keeps : (P : Float → Type 0) → ((a b : Float) → P a → P b → P (a ⊗ b)) → (n : ℕ) (s : Float) → P one → P s → P (power s n)
-unfolding power
+power_keeps : (P : Float → Type 0) → ((a b : Float) → P a → P b → P (a ⊗ b)) → (n : ℕ) (s : Float) → P one → P s → P (whole_power s n)
+unfolding whole_power
 power_keeps P times n s o p = go (eqb (n % 2) 1)
   where
     go : (b : Bool) → P (squarings 4 n s (cond b s one))
     go true = kept P times 4 n s s p p
     go false = kept P times 4 n s one p o
 
-pub power_fits : (n : ℕ) (s : Float) → T (fits binary64 s) → T (fits binary64 (power s n))
+pub power_fits : (n : ℕ) (s : Float) → T (fits binary64 s) → T (fits binary64 (whole_power s n))
 power_fits n s t = power_keeps (λ (x : Float). T (fits binary64 x)) (λ a b p q. mul-fits binary64 a b) n s (unfold fits in tt) t
 
 -- ---- no NaN
@@ -148,12 +148,12 @@ either_size (fin s m e) h = either (m * up e) (down e)
     either : (a c : ℕ) → (c ≤ a) ⊎ (a ≤ c)
     either a c = grind arith
 
-pub power_number : (n : ℕ) (s : Float) → T (not (is_nan s)) → T (not (is_nan (power s n)))
+pub power_number : (n : ℕ) (s : Float) → T (not (is_nan s)) → T (not (is_nan (whole_power s n)))
 power_number n s h = go (either_size s h)
   where
-    go : Large s ⊎ Small s → T (not (is_nan (power s n)))
-    go (inl p) = large_number (power s n) (power_keeps Large large_times n s (omega arith) p)
-    go (inr p) = small_number (power s n) (power_keeps Small small_times n s (omega arith) p)
+    go : Large s ⊎ Small s → T (not (is_nan (whole_power s n)))
+    go (inl p) = large_number (whole_power s n) (power_keeps Large large_times n s (omega arith) p)
+    go (inr p) = small_number (whole_power s n) (power_keeps Small small_times n s (omega arith) p)
 
 -- ---- the quotient
 over_one : (s : Bool) (m : ℕ) (e : ℤ) → T (fits binary64 (fin s m e)) → round binary64 s (m * up e * 1) (1 * down e) ≡ fin s m e
@@ -205,10 +205,10 @@ sign_of_pattern x y t h = go (order n (2 ^ 31))
         less_than n k l = omega (arith, k, l)
 
 -- what the code divides, for the sign's bit b
-pub quotient : (acc : Float) (below : Bool) (b : ℕ) → T (fits binary64 acc) → b ≡ cond below 1 0 → factor (1 - b) acc ⊘ factor b acc ≡ cond below (one ⊘ acc) acc
-quotient acc below b t e = ap (λ (k : ℕ). factor (1 - k) acc ⊘ factor k acc) e ∙ go below
+pub quotient : (acc : Float) (below : Bool) (b : ℕ) → T (fits binary64 acc) → b ≡ cond below 1 0 → turn_factor (1 - b) acc ⊘ turn_factor b acc ≡ cond below (one ⊘ acc) acc
+quotient acc below b t e = ap (λ (k : ℕ). turn_factor (1 - k) acc ⊘ turn_factor k acc) e ∙ go below
   where
-    go : (below : Bool) → factor (1 - cond below 1 0) acc ⊘ factor (cond below 1 0) acc ≡ cond below (one ⊘ acc) acc
+    go : (below : Bool) → turn_factor (1 - cond below 1 0) acc ⊘ turn_factor (cond below 1 0) acc ≡ cond below (one ⊘ acc) acc
     go true = refl
     go false = div_one acc t
 

@@ -7,17 +7,17 @@ use lib.Ieee.Fits.{mul-fits}
 use Rattle.floats.specs.Operations.{◌⊗◌}
 use Rattle.floats.proofs.Laws.Powers.{mul_one}
 use Rattle.special.specs.Special.{one}
-use Rattle.whole.specs.Whole.{squarings, power}
+use Rattle.whole.specs.Whole.{squarings, whole_power}
 use Rattle.floats.proofs.Laws.Tests.{first, second}
 
 -- what a turn multiplies by
-abbrev pub factor : ℕ → Float → Float
-factor n s = cond (eqb (n % 2) 1) s one
+abbrev pub turn_factor : ℕ → Float → Float
+turn_factor n s = cond (eqb (n % 2) 1) s one
 
 -- the turns that are left
 abbrev pub factors : ℕ → ℕ → Float → Float → Float
 factors zero n s acc = acc
-factors (suc turns) n s acc = factors turns (n / 2) (s ⊗ s) (acc ⊗ factor (n / 2) (s ⊗ s))
+factors (suc turns) n s acc = factors turns (n / 2) (s ⊗ s) (acc ⊗ turn_factor (n / 2) (s ⊗ s))
 
 -- with no bit left they change nothing
 idle : (turns : ℕ) (s acc : Float) → T (fits binary64 acc) → factors turns 0 s acc ≡ acc
@@ -44,14 +44,14 @@ same (suc turns) n s acc t = go (leb n 1) refl (λ a u. same turns (n / 2) (s �
     go : (b : Bool) → leb n 1 ≡ b → ((a : Float) → T (fits binary64 a) → factors turns (n / 2) (s ⊗ s) a ≡ squarings turns (n / 2) (s ⊗ s) a) → factors (suc turns) n s acc ≡ squarings (suc turns) n s acc
     go true e rest =
         let h : n / 2 ≡ 0 = omega (arith, leb-true n 1 e) in
-        ap (λ (k : ℕ). factors turns k (s ⊗ s) (acc ⊗ factor k (s ⊗ s))) h ∙ idle (suc turns) s acc t ∙ first (leb n 1) acc _ e
+        ap (λ (k : ℕ). factors turns k (s ⊗ s) (acc ⊗ turn_factor k (s ⊗ s))) h ∙ idle (suc turns) s acc t ∙ first (leb n 1) acc _ e
     go false e rest =
         ap (factors turns (n / 2) (s ⊗ s)) (turn bit (s ⊗ s) acc t) ∙ rest (cond bit (acc ⊗ (s ⊗ s)) acc) (turn_fits bit (s ⊗ s) acc t) ∙ second (leb n 1) acc _ e
 
 -- the power, from its first factor
-pub factors_power : (n : ℕ) (s : Float) → T (fits binary64 (factor n s)) → factors 4 n s (factor n s) ≡ power s n
-unfolding power
-factors_power n s t = same 4 n s (factor n s) t
+pub factors_power : (n : ℕ) (s : Float) → T (fits binary64 (turn_factor n s)) → factors 4 n s (turn_factor n s) ≡ whole_power s n
+unfolding whole_power
+factors_power n s t = same 4 n s (turn_factor n s) t
 
 -- ---- n below 2^(turns + 1): further turns have no bit left
 spare : (turns more n : ℕ) (s acc : Float) → turns ≤ more → n < 2 ^ suc turns → squarings more n s acc ≡ squarings turns n s acc

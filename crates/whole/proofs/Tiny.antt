@@ -14,7 +14,7 @@ use Rattle.floats.proofs.Laws.Tests.{first, second}
 use Rattle.floats.proofs.Laws.Rounding.{neg_round}
 use Rattle.floats.proofs.Laws.Order.{clear, pattern_mono, round_clear, round_at_most}
 use Rattle.special.specs.Special.{zero, one}
-use Rattle.whole.specs.Whole.{is_whole, is_tiny, tiny, squarings, power, whole}
+use Rattle.whole.specs.Whole.{is_whole, is_tiny, tiny, squarings, whole_power, whole}
 use Rattle.floats.proofs.Laws.Compare.{at_most}
 use Rattle.whole.proofs.Exponent.{at_most_16}
 
@@ -104,11 +104,11 @@ unfolding narrowed div round
 at_one true = refl
 at_one false = refl
 
-no_power : (s : Float) → power s 0 ≡ one
-unfolding power squarings
+no_power : (s : Float) → whole_power s 0 ≡ one
+unfolding whole_power squarings
 no_power s = refl
 
-pub power_way : (x y acc : Float) → is_whole x y ≡ true → acc ≡ power (x ⊕ one) (exponent x y) → narrowed (cond (lt y zero) (one ⊘ acc) acc) ≡ whole x y
+pub power_way : (x y acc : Float) → is_whole x y ≡ true → acc ≡ whole_power (x ⊕ one) (exponent x y) → narrowed (cond (lt y zero) (one ⊘ acc) acc) ≡ whole x y
 unfolding whole
 power_way x y acc h e = go (is_tiny x) refl
   where
@@ -116,7 +116,7 @@ power_way x y acc h e = go (is_tiny x) refl
     count = to_unsigned 32 (absolute y)
 
     value : ℕ → Float
-    value n = let a = power (x ⊕ one) n in narrowed (cond (lt y zero) (one ⊘ a) a)
+    value n = let a = whole_power (x ⊕ one) n in narrowed (cond (lt y zero) (one ⊘ a) a)
 
     by_power : narrowed (cond (lt y zero) (one ⊘ acc) acc) ≡ value (exponent x y)
     by_power = ap (λ (a : Float). narrowed (cond (lt y zero) (one ⊘ a) a)) e

@@ -29,12 +29,12 @@ squarings (suc turns) n s acc =
     cond (nat_le n 1) acc (squarings turns (n / 2) (s ⊗ s) (cond (n / 2 % 2 == 1) (acc ⊗ (s ⊗ s)) acc))
 
 -- s to the n-th power, for n up to 16
-unfoldable pub power : Float → ℕ → Float
-power s n = squarings 4 n s (cond (n % 2 == 1) s Special.one)
+unfoldable pub whole_power : Float → ℕ → Float
+whole_power s n = squarings 4 n s (cond (n % 2 == 1) s Special.one)
 
 -- "Otherwise s is x+1 in f64, squared along the bits of |y|, with 1/acc for negative y, then narrowed"
 unfoldable pub whole : Float → Float → Float
 whole x y =
     cond (is_tiny x) (tiny x y)
-    (let acc = power (x ⊕ Special.one) (to_unsigned 32 (absolute y)) in
+    (let acc = whole_power (x ⊕ Special.one) (to_unsigned 32 (absolute y)) in
     narrowed (cond (lt y Special.zero) (Special.one ⊘ acc) acc))

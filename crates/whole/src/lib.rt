@@ -28,7 +28,7 @@ const ONE: u64 = 0x3ff0_0000_0000_0000;
 
 // s where n is odd, and 1 where it is even. The patterns are reckoned with: of an `if` the compiler
 // makes a branch on the bits of n, which could not be foreseen.
-fn factor(s: f64, n: u32) -> f64
+fn turn_factor(s: f64, n: u32) -> f64
     requires { T (not (is_nan s)) }
     ensures { result ≡ (if nat_eq (n % 2) 1 then s else one) }
 {
@@ -42,15 +42,15 @@ fn factor(s: f64, n: u32) -> f64
 // the bits whole exponents take 35 % longer, and more than their bar of nine tenths of the Rust's time.
 fn squarings(s: f64, n: u32) -> f64
     requires { T (not (is_nan s)) }
-    ensures { result ≡ spec.power s n }
+    ensures { result ≡ spec.whole_power s n }
 {
     let mut square = s;
     let mut left = n;
-    let mut acc = factor(s, n);
+    let mut acc = turn_factor(s, n);
     for turn in 0..4u32 {
         left = left / 2;
         square = square * square;
-        acc = acc * factor(square, left);
+        acc = acc * turn_factor(square, left);
     }
     acc
 }
@@ -67,5 +67,5 @@ pub fn whole(x: f32, y: f32) -> f32
     let acc = squarings(x as f64 + 1.0, n * (1 - tiny));
     // acc / 1, or 1 / acc where y is below 0
     let below = ny / 0x8000_0000;
-    narrow_number(factor(acc, 1 - below) / factor(acc, below))
+    narrow_number(turn_factor(acc, 1 - below) / turn_factor(acc, below))
 }

@@ -2,16 +2,16 @@
 -- test, so it is no NaN and not below a constant above 0. Of the route `slow` it is a hypothesis (`SlowClear`), which Slow/SlowSign.antt proves.
 -- Assumes nothing.
 use mathlib.Core.Path.{◌≡◌, refl, sym, ap, ◌∙◌}
-use mathlib.Core.Bool.{true, false, not, true≢false}
-use Prim.Native.Nat.{ℕ, ◌+◌, ◌*◌, ◌%◌, ◌^◌, ◌<◌}
+use mathlib.Core.Bool.{true, false, true≢false}
+use Prim.Native.Nat.{ℕ, ◌+◌, ◌*◌, ◌^◌, ◌<◌}
 use native.Mathlib.Omega.{arith}
 use borrow.Author.Tests.{lt-ltb}
-use lib.Dec.{T, leb, ltb}
-use lib.IntN.{pos, negsuc}
-use lib.Ieee.{Float, nan, inf, fin, binary32, binary64, up, down, add, sub, lt, le, eq, ne, fits, to_bits, of_bits}
+use lib.Dec.{T, ltb}
+use lib.IntN.{negsuc}
+use lib.Ieee.{Float, nan, inf, fin, binary32, up, down, add, sub, lt, eq, ne, fits, of_bits}
 use lib.Ieee.Fits.{down_pos, add-fits}
 use Rattle.std.proofs.Common.{Option}
-use Rattle.std.proofs.lemmas.Bool.{cond_both, not-false}
+use Rattle.std.proofs.lemmas.Bool.{cond_both}
 use Rattle.filter.specs.Right.{Inside}
 use Rattle.floats.specs.Operations.{◌⊕◌, ◌⊖◌, ◌⊗◌, f64}
 use Rattle.floats.specs.Narrowing.{narrowed, nearest_whole}
@@ -19,6 +19,7 @@ use Rattle.floats.proofs.Laws.Narrow.{narrowed_fits}
 use Rattle.floats.proofs.Laws.Order.{clear}
 use Rattle.double_double.specs.declared.DoubleDouble.{DoubleDouble}
 use Rattle.special.specs.Special as Special
+use Rattle.fast_path.specs.Edges.{gives_zero, gives_infinity, gives_one}
 use Rattle.fast_path.specs.Fast.{compoundf_log2p1_fast, rounding_test, exp2_fast}
 use Rattle.slow_path.specs.Slow.{is_near_one, scaled_to_f32, exp2_away, exp2_accurate, compoundf_accurate}
 use Rattle.special.specs.Operands.{Tabled}
@@ -81,7 +82,7 @@ pub table_plain : SlowClear → (x y : Float) → Tabled x y → Plain (table_pa
 unfolding table_path from_logarithm
 table_plain slow x y p =
     let t = compoundf_log2p1_fast x ⊗ y in
-    cond_both (le t (fin true 75 (pos 1))) _ _ PlainValue (λ _. plain_zero)
-    (λ above. cond_both (not (lt t (fin false 1 (pos 7)))) _ _ PlainValue (λ _. plain_infinity)
-    (λ below. cond_both (leb (to_bits binary64 t * 2 % 2 ^ 64) 0x3e6715476ba97f14) _ _ PlainValue (λ _. plain_one)
-    (λ apart. decided_plain x y (record { in_f32 = accurate_fits x y; is_clear = slow x y p (record { above = above; below = not-false _ below; apart = apart }) }) t)))
+    cond_both (gives_zero t) _ _ PlainValue (λ _. plain_zero)
+    (λ above. cond_both (gives_infinity t) _ _ PlainValue (λ _. plain_infinity)
+    (λ below. cond_both (gives_one t) _ _ PlainValue (λ _. plain_one)
+    (λ apart. decided_plain x y (record { in_f32 = accurate_fits x y; is_clear = slow x y p (record { above = above; below = below; apart = apart }) }) t)))

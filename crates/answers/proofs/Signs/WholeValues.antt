@@ -20,7 +20,7 @@ use Rattle.floats.proofs.Laws.Order.{le_either, clear, clear_both, round_clear, 
 use Rattle.floats.proofs.Laws.Sums.{add_turned}
 use Rattle.special.specs.Special as Special
 use Rattle.special.specs.Special.{one, minus_one}
-use Rattle.whole.specs.Whole.{is_whole, is_tiny, tiny, squarings, power, whole}
+use Rattle.whole.specs.Whole.{is_whole, is_tiny, tiny, squarings, whole_power, whole}
 use Rattle.fast_path.proofs.OnePlus.{sum_clear}
 use Rattle.whole.proofs.Tiny.{tiny_is_one}
 use Rattle.answers.proofs.Signs.Plain.{Plain, plain_one, plain_narrowed, either}
@@ -99,16 +99,16 @@ module _ (P : Float → Type 0) (at_one : P one) (product : (x y : Float) → P 
       let r = product s s p p in
       either P (leb n 1) acc _ q (of_squarings turns (n / 2) (s ⊗ s) _ r (either P (eqb (n / 2 % 2) 1) (acc ⊗ (s ⊗ s)) acc (product acc (s ⊗ s) q r) q))
 
-  of_power : (s : Float) (n : ℕ) → P s → P (power s n)
-  unfolding power
+  of_power : (s : Float) (n : ℕ) → P s → P (whole_power s n)
+  unfolding whole_power
   of_power s n p = of_squarings 4 n s _ p (either P (eqb (n % 2) 1) s one p at_one)
 
 -- a value with a clear sign is at least 1 or at most 1
-power_clear : (s : Float) (n : ℕ) → T (clear s) → T (clear (power s n))
+power_clear : (s : Float) (n : ℕ) → T (clear s) → T (clear (whole_power s n))
 power_clear s n c = go (le_either one s tt c)
   where
-    go : T (le one s) ⊎ T (le s one) → T (clear (power s n))
-    go (inl h) = from_one_clear (power s n) (of_power (λ (x : Float). T (le one x)) (unfold le in tt) from_one_product s n h)
+    go : T (le one s) ⊎ T (le s one) → T (clear (whole_power s n))
+    go (inl h) = from_one_clear (whole_power s n) (of_power (λ (x : Float). T (le one x)) (unfold le in tt) from_one_product s n h)
     go (inr h) = (of_power ToOne (tt, (unfold le in tt)) to_one_product s n (c, h)).0
 
 -- 1 over a value with a clear sign
@@ -131,7 +131,7 @@ one_more_clear (fin s m e) h = subst (λ (y : Float). T (clear y)) (add_turned b
 -- ---- the answers
 pub whole_plain : (x y : Float) → T (lt minus_one x) → is_whole x y ≡ true → Plain (whole x y)
 unfolding whole
-whole_plain x y h e = go (is_tiny x) refl (power (x ⊕ one) (to_unsigned 32 (absolute y))) (power_clear (x ⊕ one) (to_unsigned 32 (absolute y)) (one_more_clear x h))
+whole_plain x y h e = go (is_tiny x) refl (whole_power (x ⊕ one) (to_unsigned 32 (absolute y))) (power_clear (x ⊕ one) (to_unsigned 32 (absolute y)) (one_more_clear x h))
   where
     go : (b : Bool) → is_tiny x ≡ b → (acc : Float) → T (clear acc) → Plain (cond b (tiny x y) (narrowed (cond (lt y Special.zero) (one ⊘ acc) acc)))
     go true k acc c = subst Plain (sym (tiny_is_one x y e k)) plain_one

@@ -3,26 +3,29 @@
 -- `slow_k_lem`). Assumes nothing.
 use mathlib.Core.Path.{◌≡◌, refl, sym, ap, ap₂, ◌∙◌, subst}
 use mathlib.Core.Logic.{◌⊎◌, inl, inr}
-use mathlib.Core.Bool.{Bool, true, false, not, cond, true≢false}
+use mathlib.Core.Bool.{Bool, true, false, cond, true≢false}
 use Prim.Native.Nat.{ℕ, ◌+◌, ◌*◌, ◌%◌, ◌^◌, ◌≤◌, ◌<◌}
-use native.Mathlib.Nat.{le_refl, le_trans, le_of_eq, le_of_lt, lt_of_lt_of_le, mul_assoc, mul-le-mul_right, mul-pos, mul-one, add-le-add, not-le_of_lt}
+use native.Mathlib.Nat.{le_refl, le_trans, le_of_eq, le_of_lt, lt_of_lt_of_le, mul_assoc, mul-le-mul_right, mul-pos, mul-one, not-le_of_lt}
 use native.Mathlib.Omega.{arith}
 use borrow.Author.Tests.{le-ltb}
 use lib.Dec.{T, leb, ltb, lit≤, lit<}
 use lib.IntN.{pos, negsuc}
-use lib.Ieee.{Float, nan, inf, fin, binary32, binary64, up, down, unlike, size, fits, to_bits, of_bits, add, mul, lt, le, eq, is_nan, to_signed}
-use lib.Ieee.Fits.{and_r, sub-fits, mul-fits}
+use lib.Ieee.{Float, nan, inf, fin, binary32, binary64, up, down, size, fits, to_bits, of_bits, add, lt, le, eq, to_signed}
+use lib.Ieee.Fits.{and_r, sub-fits}
 use lib.Ieee.Scale.{finite}
 use Rattle.std.proofs.lemmas.Bool.{cond_both}
 use Rattle.filter.specs.Right.{Inside}
+use Rattle.filter.proofs.Limits.{lower_edge_units, upper_edge_units}
+use Rattle.filter.proofs.Settled.{beside}
+use Rattle.fast_path.specs.Edges.{lower_edge, upper_edge, gives_zero, gives_infinity}
 use Rattle.floats.specs.Operations.{◌⊕◌, ◌⊖◌, ◌⊗◌, f64}
 use Rattle.floats.specs.Narrowing.{narrowed, nearest_whole}
 use Rattle.floats.specs.OnBits.{absolute}
 use Rattle.floats.proofs.Laws.Narrow.{narrowed_same}
-use Rattle.floats.proofs.Laws.Order.{clear, or_l}
+use Rattle.floats.proofs.Laws.Order.{clear}
 use Rattle.floats.proofs.Laws.Sums.{whole_distance, SizeAtMost, whole_at_most}
 use Rattle.floats.proofs.Laws.Place.{place}
-use Rattle.floats.proofs.Laws.Units.{exponent, bits_of_value, round_number}
+use Rattle.floats.proofs.Laws.Units.{exponent, bits_of_value}
 use Rattle.double_double.specs.declared.DoubleDouble.{DoubleDouble}
 use Rattle.double_double.specs.DoubleDouble.{from_exact_add, quick_mult_f64}
 use Rattle.special.specs.Special as Special
@@ -95,42 +98,19 @@ module _ (x : Float) (f : T (fits binary32 x)) (p : T (finite x)) (h : T (lt min
       go false g c k = by_parts (from_exact_add x one) (split false c g k) (λ a. parted_high x a (le_of_units one x one_is_1.number num.0 (le_of_lt (gt_of_not_le x one num.0 one_is_1.number g))))
 
 -- ---- t = l × y
--- it is no NaN: the two tests of the route `edge` say of it what document 01 says
-product_number : (l y : Float) → T (finite l) → T (finite y) → T (not (is_nan (l ⊗ y)))
-unfolding mul
-product_number nan y p q = absurd p
-product_number (inf s) y p q = absurd p
-product_number (fin s m e) nan p q = absurd q
-product_number (fin s m e) (inf t) p q = absurd q
-product_number (fin s m e) (fin t n d) p q = round_number binary64 (unlike s t) (m * up e * (n * up d)) (down e * down d)
-
-pub exponent_number : (x y : Float) → Tabled x y → T (not (is_nan (compoundf_log2p1_fast x ⊗ y)))
-exponent_number x y t = product_number (compoundf_log2p1_fast x) y (go (both_logs x t.base.x_fits t.base.x_finite t.base.x_above)) t.y_finite
-  where
-    go : Logs (compoundf_log2p1_fast x) (compoundf_log2p1_accurate x) ⊎ Nil (compoundf_log2p1_fast x) → T (finite (compoundf_log2p1_fast x))
-    go (inl logs) = logs.above.number.plain
-    go (inr nil) = nil.number.plain
-
 -- where the slow path is taken its size is 150 at most
-t_number : (t : Float) → T (fits binary64 t) → le t (fin true 75 (pos 1)) ≡ false → lt t (fin false 1 (pos 7)) ≡ true → Number t × (mag t ≤ 150 * per_one)
-unfolding le lt fits per_one
-t_number nan f g h = absurd (true≢false (sym h))
-t_number (inf true) f g h = absurd (true≢false g)
-t_number (inf false) f g h = absurd (true≢false (sym h))
-t_number (fin s m e) f g h =
-    let n : Number (fin s m e) = record { held = f; plain = tt } in
-    let low = gt_of_not_le (fin s m e) (fin true 75 (pos 1)) n (record { held = tt; plain = tt }) g in
-    let high = le_units (fin s m e) (fin false 1 (pos 7)) n (record { held = tt; plain = tt }) (or_l (lt (fin s m e) (fin false 1 (pos 7))) (eq (fin s m e) (fin false 1 (pos 7))) (subst T (sym h) tt)) in
-    (n, sides (plus (fin s m e)) (less (fin s m e)) (150 * 2 ^ 1074) (one_side (fin s m e)) (le_trans (above (plus (fin s m e)) (less (fin s m e)) (2 ^ 1081) high) (widen (less (fin s m e)))) (below (plus (fin s m e)) (less (fin s m e)) (75 * 2 ^ 1075) low))
+t_size : (t : Float) → Number t → gives_zero t ≡ false → gives_infinity t ≡ false → mag t ≤ 150 * per_one
+t_size t n g h =
+    let low = gt_of_not_le t lower_edge n lower_edge_units.0 g in
+    let high = gt_of_not_le upper_edge t upper_edge_units.0 n h in
+    sized (plus t) (less t) (plus lower_edge) (less lower_edge) (plus upper_edge) (less upper_edge) per_one (one_side t) edges.0 edges.1 edges.2 edges.3 low high
   where
-    above : (p n c : ℕ) → p + 0 ≤ c + n → p ≤ n + c
-    above p n c h = omega arith
+    edges : (plus lower_edge ≡ 0) × (less lower_edge ≡ 150 * per_one) × (plus upper_edge ≡ 128 * per_one) × (less upper_edge ≡ 0)
+    edges = unfold per_one in (refl, refl, refl, refl)
 
-    widen : (n : ℕ) → n + 2 ^ 1081 ≤ n + 150 * 2 ^ 1074
-    widen n = add-le-add (le_refl n) (lit≤ tt)
-
-    below : (p n c : ℕ) → 0 + n < p + c → n ≤ p + c
-    below p n c h = omega arith
+    sized : (p n a b c d w : ℕ) → (p ≡ 0) ⊎ (n ≡ 0) → a ≡ 0 → b ≡ 150 * w → c ≡ 128 * w → d ≡ 0 → a + n < p + b → p + d < c + n → p + n ≤ 150 * w
+    sized p n a b c d w (inl e) e1 e2 e3 e4 g h = omega arith
+    sized p n a b c d w (inr e) e1 e2 e3 e4 g h = omega arith
 
 -- ---- the exponent of the accurate path
 module _ (l y : Float) (L : DoubleDouble) (logs : Logs l L) (Y : Number y) (y_most : mag y ≤ 2 ^ 128 * per_one) (T_size : mag (l ⊗ y) ≤ 150 * per_one) where
@@ -272,7 +252,7 @@ module _ (x y : Float) (tabled : Tabled x y) (inside : Inside (compoundf_log2p1_
     where
       go : Logs (compoundf_log2p1_fast x) (compoundf_log2p1_accurate x) ⊎ Nil (compoundf_log2p1_fast x) → Exponent (quick_mult_f64 (compoundf_log2p1_accurate x) y)
       go (inl logs) =
-          let t = (t_number (compoundf_log2p1_fast x ⊗ y) (mul-fits binary64 (compoundf_log2p1_fast x) y) inside.above inside.below).1 in
+          let t = t_size (compoundf_log2p1_fast x ⊗ y) (beside x y tabled).number inside.above inside.below in
           record {
             number = (exponent_bounds (compoundf_log2p1_fast x) y (compoundf_log2p1_accurate x) logs Y.0 Y.1 t).hi.number;
             first = first_part (compoundf_log2p1_fast x) y (compoundf_log2p1_accurate x) logs Y.0 Y.1 t;

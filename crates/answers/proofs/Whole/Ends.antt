@@ -33,14 +33,14 @@ pub record SmallEnough (k : ℕ) : Type 0 where
   pub upper_one : (2 ^ 25 - 1) * 2 ^ k * (2 ^ 29) ^ 16 ≤ (2 ^ k + 1) * 2 ^ 25 * (2 ^ 29 - 1) ^ 16
 
 -- ---- within 33 factors
-lower_end : (A C a c i I u U : ℕ) → 0 < I → u * I ≤ U * i → A * c * i ≤ a * C * I → A * u * c ≤ a * (C * U)
-lower_end A C a c i I u U P l h =
+lower_end_reached : (A C a c i I u U : ℕ) → 0 < I → u * I ≤ U * i → A * c * i ≤ a * C * I → A * u * c ≤ a * (C * U)
+lower_end_reached A C a c i I u U P l h =
     let x : A * c * (u * I) ≤ A * c * (U * i) = mul-le-mul_left (A * c) l in
     let y : A * c * i * U ≤ a * C * I * U = mul-le-mul_right U h in
     le_of_mul-le-mul_right {k = I} (omega arith) P
 
-upper_end : (A C a c i I u U : ℕ) → 0 < i → U * I ≤ u * i → a * C * i ≤ A * c * I → a * (C * U) ≤ A * u * c
-upper_end A C a c i I u U P l h =
+upper_end_reached : (A C a c i I u U : ℕ) → 0 < i → U * I ≤ u * i → a * C * i ≤ A * c * I → a * (C * U) ≤ A * u * c
+upper_end_reached A C a c i I u U P l h =
     let x : A * c * (U * I) ≤ A * c * (u * i) = mul-le-mul_left (A * c) l in
     let y : a * C * i * U ≤ A * c * I * U = mul-le-mul_right U h in
     le_of_mul-le-mul_right {k = i} (omega arith) P
@@ -52,9 +52,9 @@ between {k} fine E v P w =
     let c = down w.exponent in
     subst (Near k E) (sym (ap narrowed w.is)) (
       round_mono binary32 (E.top * (2 ^ k - 1)) (E.bottom * 2 ^ k) a c (mul-pos P (pow_pos k)) (down_pos w.exponent)
-          (lower_end E.top E.bottom a c (near ^ 33) (full ^ 33) (2 ^ k - 1) (2 ^ k) (lit< tt) fine.lower w.close.below),
+          (lower_end_reached E.top E.bottom a c (near ^ 33) (full ^ 33) (2 ^ k - 1) (2 ^ k) (lit< tt) fine.lower w.close.below),
       round_mono binary32 a c (E.top * (2 ^ k + 1)) (E.bottom * 2 ^ k) (down_pos w.exponent) (mul-pos P (pow_pos k))
-          (upper_end E.top E.bottom a c (near ^ 33) (full ^ 33) (2 ^ k + 1) (2 ^ k) (lit< tt) fine.upper w.close.above),
+          (upper_end_reached E.top E.bottom a c (near ^ 33) (full ^ 33) (2 ^ k + 1) (2 ^ k) (lit< tt) fine.upper w.close.above),
     )
 
 -- ---- zero

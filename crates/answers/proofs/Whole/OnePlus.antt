@@ -19,7 +19,7 @@ use Rattle.special.specs.Special.{one, minus_one}
 use Rattle.whole.specs.Whole.{is_tiny}
 use Rattle.fast_path.proofs.OnePlus.{digits_below}
 use Rattle.floats.proofs.Laws.Tests.{first}
-use Rattle.answers.specs.Exact.{one_plus}
+use Rattle.answers.specs.Exact.{exact_base}
 use Rattle.answers.proofs.Whole.Factors.{WithinFactors}
 use Rattle.answers.proofs.Whole.Within.{Within, rounded}
 use Rattle.answers.proofs.Whole.Squared.{Base}
@@ -31,8 +31,8 @@ sum_more a d = omega arith
 sum_less : (a d : ℕ) → 1 * d - a * 1 ≡ d - a
 sum_less a d = omega arith
 
-sum_is : (s : Bool) (m : ℕ) (e : ℤ) → T (lt minus_one (fin s m e)) → fin s m e ⊕ one ≡ round binary64 false (one_plus (fin s m e)).top (one_plus (fin s m e)).bottom
-unfolding add sum lt one_plus
+sum_is : (s : Bool) (m : ℕ) (e : ℤ) → T (lt minus_one (fin s m e)) → fin s m e ⊕ one ≡ round binary64 false (exact_base (fin s m e)).top (exact_base (fin s m e)).bottom
+unfolding add sum lt exact_base
 sum_is false m e h = ap₂ (round binary64 false) (sum_more (m * up e) (down e)) (mul-one (down e))
 sum_is true m e h =
     sym (first (ltb (m * up e * 1) (1 * 1 * down e)) (round binary64 false (1 * 1 * down e - m * up e * 1) (down e * 1)) _ (is_true (ltb (m * up e * 1) (1 * 1 * down e)) h))
@@ -72,8 +72,8 @@ unit : (a d : ℕ) → a * 1 < 1 * d → a < d
 unit a d h = omega arith
 
 pub base : (s : Bool) (m : ℕ) (e : ℤ) → T (fits binary32 (fin s m e)) → T (lt minus_one (fin s m e)) → T (lt (fin s m e) (fin false 1 (pos 64)))
-    → Base (one_plus (fin s m e)).top (one_plus (fin s m e)).bottom
-unfolding lt one_plus
+    → Base (exact_base (fin s m e)).top (exact_base (fin s m e)).bottom
+unfolding lt exact_base
 base false m e f g h =
     more_base (m * up e) (down e) (down_pos e)
     (largest m e (fits_digits binary32 false m e f) (lt_of_le_of_lt (le_of_eq (sym (mul-one (m * up e)))) (ltb→lt (m * up e * 1) (1 * 2 ^ 64 * down e) h)))
@@ -88,11 +88,11 @@ base_normal P R U L l h =
     let y : P * (U * 2 ^ 24) ≤ P * L = mul-le-mul_left P l in
     omega arith
 
-pub sum_within : (s : Bool) (m : ℕ) (e : ℤ) → T (lt minus_one (fin s m e)) → Base (one_plus (fin s m e)).top (one_plus (fin s m e)).bottom
-    → Within 1 (one_plus (fin s m e)).top (one_plus (fin s m e)).bottom (fin s m e ⊕ one)
+pub sum_within : (s : Bool) (m : ℕ) (e : ℤ) → T (lt minus_one (fin s m e)) → Base (exact_base (fin s m e)).top (exact_base (fin s m e)).bottom
+    → Within 1 (exact_base (fin s m e)).top (exact_base (fin s m e)).bottom (fin s m e ⊕ one)
 sum_within s m e h b =
-    let P = (one_plus (fin s m e)).top in
-    let R = (one_plus (fin s m e)).bottom in
+    let P = (exact_base (fin s m e)).top in
+    let R = (exact_base (fin s m e)).bottom in
     subst (Within 1 P R) (sym (sum_is s m e h)) (rounded P R b.bottom (base_normal P R (2 ^ 52) (2 ^ 1074) (lit≤ tt) b.at_least) (lt_of_le_of_lt b.at_most (mul-lt-mul_of_pos_right (lit< tt) b.bottom)))
 
 -- ---- near to 1
@@ -106,7 +106,7 @@ tiny_size : (s : Bool) (m : ℕ) (e : ℤ) → is_tiny (fin s m e) ≡ true → 
 unfolding is_tiny absolute le
 tiny_size s m e h = at_most (m * up e * 2 ^ 29) (1 * 1 * down e) (subst T (sym h) tt)
 
-pub tiny_close : (s : Bool) (m : ℕ) (e : ℤ) → is_tiny (fin s m e) ≡ true → WithinFactors (2 ^ 29 - 1) (2 ^ 29) 1 (one_plus (fin s m e)).top (one_plus (fin s m e)).bottom 1 1
-unfolding one_plus
+pub tiny_close : (s : Bool) (m : ℕ) (e : ℤ) → is_tiny (fin s m e) ≡ true → WithinFactors (2 ^ 29 - 1) (2 ^ 29) 1 (exact_base (fin s m e)).top (exact_base (fin s m e)).bottom 1 1
+unfolding exact_base
 tiny_close false m e h = more_close (m * up e) (down e) (tiny_size false m e h)
 tiny_close true m e h = less_close (m * up e) (down e) (tiny_size true m e h)

@@ -12,7 +12,7 @@ use lib.Pow.{pow-add}
 use lib.Ieee.{Float}
 use Rattle.floats.specs.Operations.{◌⊗◌}
 use Rattle.special.specs.Special.{one}
-use Rattle.whole.specs.Whole.{squarings, power}
+use Rattle.whole.specs.Whole.{squarings, whole_power}
 use Rattle.answers.proofs.Whole.Factors.{equal, power_of_product}
 use Rattle.answers.proofs.Whole.Within.{near, full, Within, InRange, within_more, times}
 
@@ -136,8 +136,8 @@ to_one a = sym (pow-suc a 0 ∙ ap (λ (x : ℕ). x * a) (pow-zero a) ∙ one-mu
 one_within : (P R : ℕ) → Power P R 0 0 one
 one_within P R = record { digits = 1; exponent = pos 0; is = refl; close = equal near full 1 1 (P ^ 0) (R ^ 0) (rw (pow-zero P, pow-zero R)) }
 
-pub power_within : {P R : ℕ} → Base P R → (n : ℕ) (s : Float) → n ≤ 16 → Within 1 P R s → Within (2 * n) (P ^ n) (R ^ n) (power s n)
-unfolding power
+pub power_within : {P R : ℕ} → Base P R → (n : ℕ) (s : Float) → n ≤ 16 → Within 1 P R s → Within (2 * n) (P ^ n) (R ^ n) (whole_power s n)
+unfolding whole_power
 power_within {P} {R} b n s l w = by_bit (eqb (n % 2) 1) refl
   where
     first_power : Power P R 1 1 s

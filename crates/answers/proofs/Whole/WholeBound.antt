@@ -17,7 +17,7 @@ use Rattle.whole.specs.Whole as Whole
 use Rattle.whole.specs.Whole.{is_whole, is_tiny}
 use Rattle.whole.proofs.Tiny.{tiny_is_one}
 use Rattle.answers.specs.Exact as Exact
-use Rattle.answers.specs.Exact.{Fraction, one_plus, exact}
+use Rattle.answers.specs.Exact.{Fraction, exact_base, exact}
 use Rattle.answers.specs.Claims.{Near, answer, WholeBound}
 use Rattle.answers.proofs.Whole.Factors.{WithinFactors, turned, looser, powers}
 use Rattle.answers.proofs.Whole.Within.{Within, within_more, Reciprocal, normal, small, reciprocal}
@@ -36,12 +36,12 @@ powers_of_one {P} {R} n l h =
     looser 16 (lit≤ tt) l (subst (λ (z : ℕ). WithinFactors (2 ^ 29 - 1) (2 ^ 29) n (P ^ n) (R ^ n) z z) (one_power n) (powers n h))
 
 -- of y = ±n 2^d, with s for the f64 sum 1 + x
-module _ {k : ℕ} (fine : SmallEnough k) (x : Float) (b : Base (one_plus x).top (one_plus x).bottom) where
+module _ {k : ℕ} (fine : SmallEnough k) (x : Float) (b : Base (exact_base x).top (exact_base x).bottom) where
   -- |x| above 2^-29: the power, or its reciprocal
-  by_powers : (t : Bool) (n : ℕ) (d : ℤ) (s : Float) → size n d ≤ 16 → Within 1 (one_plus x).top (one_plus x).bottom s
-      → Near k (exact x (fin t n d)) (narrowed (cond t (one ⊘ Whole.power s (size n d)) (Whole.power s (size n d))))
-  unfolding exact Exact.power Exact.inverse
-  by_powers false n d s l w = between fine (Exact.power (one_plus x) i) (Whole.power s i) (room b i l).bottom (within_more 33 (omega arith) (power_within b i s l w))
+  by_powers : (t : Bool) (n : ℕ) (d : ℤ) (s : Float) → size n d ≤ 16 → Within 1 (exact_base x).top (exact_base x).bottom s
+      → Near k (exact x (fin t n d)) (narrowed (cond t (one ⊘ Whole.whole_power s (size n d)) (Whole.whole_power s (size n d))))
+  unfolding exact Exact.raised Exact.raised_inverse
+  by_powers false n d s l w = between fine (Exact.raised (exact_base x) i) (Whole.whole_power s i) (room b i l).bottom (within_more 33 (omega arith) (power_within b i s l w))
     where
       i : ℕ
       i = size n d
@@ -50,15 +50,15 @@ module _ {k : ℕ} (fine : SmallEnough k) (x : Float) (b : Base (one_plus x).top
       i : ℕ
       i = size n d
 
-      go : Reciprocal (2 * i) ((one_plus x).top ^ i) ((one_plus x).bottom ^ i) (one ⊘ Whole.power s i) → Near k (Exact.inverse (one_plus x) i) (narrowed (one ⊘ Whole.power s i))
-      go (normal v) = between fine (Exact.inverse (one_plus x) i) (one ⊘ Whole.power s i) (room b i l).top (within_more 33 (omega arith) v)
-      go (small a c A C v h e) = around_zero fine (Exact.inverse (one_plus x) i) a c (one ⊘ Whole.power s i) (room b i l).top A C (looser 33 (lit≤ tt) (omega arith) v) h e
+      go : Reciprocal (2 * i) ((exact_base x).top ^ i) ((exact_base x).bottom ^ i) (one ⊘ Whole.whole_power s i) → Near k (Exact.raised_inverse (exact_base x) i) (narrowed (one ⊘ Whole.whole_power s i))
+      go (normal v) = between fine (Exact.raised_inverse (exact_base x) i) (one ⊘ Whole.whole_power s i) (room b i l).top (within_more 33 (omega arith) v)
+      go (small a c A C v h e) = around_zero fine (Exact.raised_inverse (exact_base x) i) a c (one ⊘ Whole.whole_power s i) (room b i l).top A C (looser 33 (lit≤ tt) (omega arith) v) h e
 
   -- |x| at most 2^-29: 1
-  by_one : (t : Bool) (n : ℕ) (d : ℤ) → size n d ≤ 16 → WithinFactors (2 ^ 29 - 1) (2 ^ 29) 1 (one_plus x).top (one_plus x).bottom 1 1 → Near k (exact x (fin t n d)) one
-  unfolding exact Exact.power Exact.inverse
-  by_one false n d l h = around_one fine (Exact.power (one_plus x) (size n d)) (room b (size n d) l).bottom (powers_of_one (size n d) l h)
-  by_one true n d l h = around_one fine (Exact.inverse (one_plus x) (size n d)) (room b (size n d) l).top (turned (powers_of_one (size n d) l h))
+  by_one : (t : Bool) (n : ℕ) (d : ℤ) → size n d ≤ 16 → WithinFactors (2 ^ 29 - 1) (2 ^ 29) 1 (exact_base x).top (exact_base x).bottom 1 1 → Near k (exact x (fin t n d)) one
+  unfolding exact Exact.raised Exact.raised_inverse
+  by_one false n d l h = around_one fine (Exact.raised (exact_base x) (size n d)) (room b (size n d) l).bottom (powers_of_one (size n d) l h)
+  by_one true n d l h = around_one fine (Exact.raised_inverse (exact_base x) (size n d)) (room b (size n d) l).top (turned (powers_of_one (size n d) l h))
 
 -- ---- the answer
 module _
@@ -84,20 +84,20 @@ module _
         E : Fraction
         E = exact (fin s m e) (fin t n d)
 
-        b : Base (one_plus (fin s m e)).top (one_plus (fin s m e)).bottom
+        b : Base (exact_base (fin s m e)).top (exact_base (fin s m e)).bottom
         b = base s m e fit above under
 
         sum : Float
         sum = fin s m e ⊕ one
 
-        far : (i : ℕ) (u : Bool) → i ≡ size n d → u ≡ t → Near k E (narrowed (cond u (one ⊘ Whole.power sum i) (Whole.power sum i)))
+        far : (i : ℕ) (u : Bool) → i ≡ size n d → u ≡ t → Near k E (narrowed (cond u (one ⊘ Whole.whole_power sum i) (Whole.whole_power sum i)))
         far i u p q =
-            subst (λ (i : ℕ). Near k E (narrowed (cond u (one ⊘ Whole.power sum i) (Whole.power sum i)))) (sym p)
-            (subst (λ (u : Bool). Near k E (narrowed (cond u (one ⊘ Whole.power sum (size n d)) (Whole.power sum (size n d))))) (sym q)
+            subst (λ (i : ℕ). Near k E (narrowed (cond u (one ⊘ Whole.whole_power sum i) (Whole.whole_power sum i)))) (sym p)
+            (subst (λ (u : Bool). Near k E (narrowed (cond u (one ⊘ Whole.whole_power sum (size n d)) (Whole.whole_power sum (size n d))))) (sym q)
             (by_powers fine (fin s m e) b t n d sum to_16 (sum_within s m e above b)))
 
         go : (u : Bool) → is_tiny (fin s m e) ≡ u
-            → Near k E (cond u (Whole.tiny (fin s m e) (fin t n d)) (let acc = Whole.power sum (to_unsigned 32 (absolute (fin t n d))) in narrowed (cond (lt (fin t n d) Special.zero) (one ⊘ acc) acc)))
+            → Near k E (cond u (Whole.tiny (fin s m e) (fin t n d)) (let acc = Whole.whole_power sum (to_unsigned 32 (absolute (fin t n d))) in narrowed (cond (lt (fin t n d) Special.zero) (one ⊘ acc) acc)))
         go true h = subst (Near k E) (sym (tiny_is_one (fin s m e) (fin t n d) route h)) (by_one fine (fin s m e) b t n d to_16 (tiny_close s m e h))
         go false h = far (to_unsigned 32 (absolute (fin t n d))) (lt (fin t n d) Special.zero) (cast_is t n d to_16) (sign_is t n d (pos_of_div-pos (down d) from_1))
 

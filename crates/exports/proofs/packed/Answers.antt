@@ -4,11 +4,11 @@ use denote.Enum.Declared.{tag_of}
 use Rattle.compound.specs.contracts.Route.{the_type}
 use Rattle.compound.specs.declared.Route.{Route}
 use Rattle.compound.specs.declared.Route.TheVariants.{Rule, Whole, Edge, Fast, Slow}
-use Rattle.exports.specs.Packed.{number, packed}
+use Rattle.exports.specs.Packed.{route_number, packed}
 use Rattle.exports.proofs.packed.Goals as goal
 
-tag : (r : Route) → tag_of the_type r ≡ number r
-unfolding number
+tag : (r : Route) → tag_of the_type r ≡ route_number r
+unfolding route_number
 tag Rule = refl
 tag Whole = refl
 tag Edge = refl

@@ -6,7 +6,7 @@ use Rattle.whole.proofs.Squaring.{factors}
 use Rattle.whole.proofs.squarings.Given as goal
 
 abbrev pub invariant-loop-turn : goal.invariant-loop-turn
-invariant-loop-turn l = (l.turn ≤ 4) × (T (not (is_nan l.square)) × ((turns : ℕ) → l.turn + turns ≡ 4 → factors turns l.left l.square l.acc ≡ spec.power l.s l.n))
+invariant-loop-turn l = (l.turn ≤ 4) × (T (not (is_nan l.square)) × ((turns : ℕ) → l.turn + turns ≡ 4 → factors turns l.left l.square l.acc ≡ spec.whole_power l.s l.n))
 
 abbrev pub decreases-loop-turn : goal.decreases-loop-turn
 decreases-loop-turn l = 4 - l.turn

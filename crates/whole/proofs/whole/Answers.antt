@@ -13,10 +13,10 @@ use Rattle.floats.proofs.Laws.Magnitude.{sign_off}
 use Rattle.floats.proofs.Laws.Sums.{add_number}
 use Rattle.special.specs.Special as Special
 use Rattle.whole.specs.Whole as spec
-use Rattle.whole.specs.Whole.{power}
+use Rattle.whole.specs.Whole.{whole_power}
 use Rattle.whole.proofs.Exponent.{number_x, number_y, castable_exponent, tiny_of_pattern}
 use Rattle.whole.proofs.Quotient.{power_fits, power_number, sign_of_pattern, quotient, quotient_number}
-use Rattle.whole.proofs.Squaring.{factor}
+use Rattle.whole.proofs.Squaring.{turn_factor}
 use Rattle.whole.proofs.Tiny.{exponent, power_way}
 use Rattle.whole.proofs.whole.Goals as goal
 use Rattle.whole.proofs.whole.Goals.{Start}
@@ -59,12 +59,12 @@ module _ (c : Start) where
 -- what was multiplied out, and what is narrowed
 module _
     (s : Start) (a acc : Float) (e : a ≡ float_with_sign false (y s))
-    (found : acc ≡ power (x s ⊕ Special.one) (to_unsigned 32 a * (1 - bool_byte (leb (to_bits binary32 (x s) % 2 ^ 31) 0x3100_0000)))) where
+    (found : acc ≡ whole_power (x s ⊕ Special.one) (to_unsigned 32 a * (1 - bool_byte (leb (to_bits binary32 (x s) % 2 ^ 31) 0x3100_0000)))) where
   abbrev below : ℕ
   below = to_bits binary32 (y s) / 2 ^ 31
 
-  power_is : acc ≡ power (x s ⊕ Special.one) (exponent (x s) (y s))
-  power_is = found ∙ ap (power (x s ⊕ Special.one)) (counted s a e)
+  power_is : acc ≡ whole_power (x s ⊕ Special.one) (exponent (x s) (y s))
+  power_is = found ∙ ap (whole_power (x s ⊕ Special.one)) (counted s a e)
 
   acc_fits : T (fits binary64 acc)
   acc_fits = rw power_is (power_fits (exponent (x s) (y s)) (x s ⊕ Special.one) (add-fits binary64 (x s) Special.one))
@@ -72,13 +72,13 @@ module _
   acc_number : T (not (is_nan acc))
   acc_number = rw power_is (power_number (exponent (x s) (y s)) (x s ⊕ Special.one) (sum_number s))
 
-  quotient_is : factor (1 - below) acc ⊘ factor below acc ≡ cond (lt (y s) Special.zero) (Special.one ⊘ acc) acc
+  quotient_is : turn_factor (1 - below) acc ⊘ turn_factor below acc ≡ cond (lt (y s) Special.zero) (Special.one ⊘ acc) acc
   quotient_is = quotient acc (lt (y s) Special.zero) below acc_fits (sign_of_pattern (x s) (y s) (y_fits s) s.requires)
 
-  narrowable : (p q : Float) → p ≡ factor (1 - below) acc → q ≡ factor below acc → T (not (is_nan (p ⊘ q)))
+  narrowable : (p q : Float) → p ≡ turn_factor (1 - below) acc → q ≡ turn_factor below acc → T (not (is_nan (p ⊘ q)))
   narrowable p q d e = rw (ap₂ ◌⊘◌ d e ∙ quotient_is) (quotient_number acc (lt (y s) Special.zero) acc_number)
 
-  answer : (p q : Float) → p ≡ factor (1 - below) acc → q ≡ factor below acc → narrowed (p ⊘ q) ≡ spec.whole (x s) (y s)
+  answer : (p q : Float) → p ≡ turn_factor (1 - below) acc → q ≡ turn_factor below acc → narrowed (p ⊘ q) ≡ spec.whole (x s) (y s)
   answer p q d e = ap narrowed (ap₂ ◌⊘◌ d e ∙ quotient_is) ∙ power_way (x s) (y s) acc s.requires power_is
 
 pub float_to_bits-tiny : goal.float_to_bits-tiny
@@ -109,18 +109,18 @@ pub overflow_sub-below : goal.overflow_sub-below
 unfolding of_bits
 overflow_sub-below c = one_bit _ (to_bits-lt binary32 c.args.y (passes _ c.well_formed.1.0.1))
 
-pub factor-requires : goal.factor-requires
+pub turn_factor-requires : goal.turn_factor-requires
 unfolding of_bits
-factor-requires c = acc_number (goal.at.factor-requires c).Start _ _ c.abs-n.ensures.value c.squarings-acc.ensures
+turn_factor-requires c = acc_number (goal.at.turn_factor-requires c).Start _ _ c.abs-n.ensures.value c.squarings-acc.ensures
 
-pub factor-requires-2 : goal.factor-requires-2
+pub turn_factor-requires-2 : goal.turn_factor-requires-2
 unfolding of_bits
-factor-requires-2 c = acc_number (goal.at.factor-requires-2 c).Start _ _ c.abs-n.ensures.value c.squarings-acc.ensures
+turn_factor-requires-2 c = acc_number (goal.at.turn_factor-requires-2 c).Start _ _ c.abs-n.ensures.value c.squarings-acc.ensures
 
 pub narrow_number-requires : goal.narrow_number-requires
 unfolding of_bits
-narrow_number-requires c = narrowable (goal.at.narrow_number-requires c).Start _ _ c.abs-n.ensures.value c.squarings-acc.ensures _ _ c.factor.ensures c.factor-2.ensures
+narrow_number-requires c = narrowable (goal.at.narrow_number-requires c).Start _ _ c.abs-n.ensures.value c.squarings-acc.ensures _ _ c.turn_factor.ensures c.turn_factor-2.ensures
 
 pub returns : goal.returns
 unfolding of_bits
-returns c = c.narrow_number.ensures ∙ answer (goal.at.returns c).Start _ _ c.abs-n.ensures.value c.squarings-acc.ensures _ _ c.factor.ensures c.factor-2.ensures
+returns c = c.narrow_number.ensures ∙ answer (goal.at.returns c).Start _ _ c.abs-n.ensures.value c.squarings-acc.ensures _ _ c.turn_factor.ensures c.turn_factor-2.ensures

@@ -1,7 +1,5 @@
-use Rattle.std.proofs.Common.{rules, ◌≡◌, ℕ, ◌+◌, ◌-◌, ◌≤◌, length, List, [], ◌∷◌, ◌++◌, arith}
+use Rattle.std.proofs.Common.{[], arith}
 use Rattle.std.proofs.lemmas.List.{take_rest}
-use Rattle.std.proofs.lemmas.Grind.{common_steps}
-use Rattle.batch.specs.Series.{InPieces}
 use Rattle.batch.proofs.InPieces.{begun, all_pieces, refused_pieces, come_on}
 use Rattle.batch.proofs.pieces.feed_in_pieces.Goals as goal
 

@@ -1,4 +1,4 @@
--- `factor` meets its contract: where n is odd the difference is added to the pattern of 1 and wraps back to that of s, and where n is even nothing is. Assumes nothing.
+-- `turn_factor` meets its contract: where n is odd the difference is added to the pattern of 1 and wraps back to that of s, and where n is even nothing is. Assumes nothing.
 use Rattle.std.proofs.Common.{◌≡◌, ℕ, ◌+◌, ◌*◌, ◌%◌, ◌^◌, ◌<◌, Bool, true, false, cond, not, T, eqb, sym, refl, ap, ◌∙◌, subst, mul-zero, mul-one, arith, eqb-true}
 use borrow.Author.Tests.{eqb-false}
 use lib.Ieee.{Float, binary64, fits, is_nan, nan_bits, to_bits, of_bits}
@@ -6,8 +6,8 @@ use lib.Ieee.Bits.{nan_bits_is, of_bits-to_bits, to_bits-lt}
 use denote.Floats.{passes}
 use Rattle.special.specs.Special.{one}
 use Rattle.floats.proofs.Laws.Tests.{first, second}
-use Rattle.whole.proofs.Squaring.{factor}
-use Rattle.whole.proofs.factor.Goals as goal
+use Rattle.whole.proofs.Squaring.{turn_factor}
+use Rattle.whole.proofs.turn_factor.Goals as goal
 
 -- what the pattern of s has over that of 1, and the pattern that is chosen
 abbrev more : ℕ → ℕ
@@ -24,11 +24,11 @@ chosen_even w n e = rw (e, mul-zero (more w)) refl
 
 -- its value
 module _ (s : Float) (fit : T (fits binary64 s)) (n : ℕ) where
-  is : of_bits binary64 (chosen (to_bits binary64 s) n) ≡ factor n s
+  is : of_bits binary64 (chosen (to_bits binary64 s) n) ≡ turn_factor n s
   unfolding of_bits
   is = go (eqb (n % 2) 1) refl
     where
-      go : (t : Bool) → eqb (n % 2) 1 ≡ t → of_bits binary64 (chosen (to_bits binary64 s) n) ≡ factor n s
+      go : (t : Bool) → eqb (n % 2) 1 ≡ t → of_bits binary64 (chosen (to_bits binary64 s) n) ≡ turn_factor n s
       go true e =
           ap (of_bits binary64) (chosen_odd (to_bits binary64 s) n (to_bits-lt binary64 s fit) (eqb-true (n % 2) 1 e))
           ∙ of_bits-to_bits binary64 s fit ∙ first (eqb (n % 2) 1) s one e

@@ -1,4 +1,4 @@
--- `first_feed` meets its contract. Assumes nothing.
+-- `first_line_feed` meets its contract. Assumes nothing.
 use Rattle.std.proofs.Common.{◌≡◌, eqb, length, ap, ◌∙◌, rules}
 use Rattle.std.specs.List.{position}
 use Rattle.std.specs.Option.{unwrap_or}
@@ -6,7 +6,7 @@ use Rattle.std.proofs.lemmas.Iterator.{YieldsList-from_slice}
 use Rattle.std.proofs.lemmas.Iterator.Search.{position_from_yields_List}
 use Rattle.scan.specs.Complete.{line_feed, line_end}
 use Rattle.scan.proofs.Eights.{place_or_len}
-use Rattle.scan.proofs.first_feed.Goals as goal
+use Rattle.scan.proofs.first_line_feed.Goals as goal
 
 pub returns : goal.returns
 unfolding line_end

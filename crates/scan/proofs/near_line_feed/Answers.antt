@@ -1,11 +1,11 @@
--- `near_feed` meets its contract. Assumes nothing.
+-- `near_line_feed` meets its contract. Assumes nothing.
 use Rattle.std.proofs.Common.{◌≡◌, ◌*◌, ◌/◌, length, ap, ◌∙◌, arith, rules}
 use Rattle.std.specs.List.{position}
 use Rattle.std.specs.Option.{unwrap_or}
 use Rattle.std.proofs.lemmas.Iterator.{YieldsList-from_slice}
 use Rattle.std.proofs.lemmas.Iterator.Search.{position_from_yields_List}
 use Rattle.scan.proofs.Eights.{has, Before, place_or_len, near_end}
-use Rattle.scan.proofs.near_feed.Goals as goal
+use Rattle.scan.proofs.near_line_feed.Goals as goal
 
 pub returns : goal.returns
 returns c =
