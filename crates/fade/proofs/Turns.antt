@@ -1,5 +1,5 @@
 -- A turn, and turns one after another: what they fed, read and printed. Assumes nothing.
-use Rattle.std.proofs.Common.{ℕ, zero, suc, ◌+◌, ◌<◌, ◌≤◌, ◌≡◌, refl, sym, ap, ◌∙◌, true, false, List, [], ◌∷◌, ◌++◌, length, take, append_assoc, append-nil, length-append, length-take, arith}
+use Rattle.std.proofs.Common.{ℕ, zero, suc, ◌+◌, ◌<◌, ◌≤◌, ◌≡◌, refl, sym, true, List, [], ◌∷◌, ◌++◌, length, take, append_assoc, append-nil, arith}
 use Rattle.std.proofs.Math.Seq.{take-append-add}
 use Rattle.std.proofs.lemmas.List.Elements.{All-nil, All-cons, All-append}
 use Rattle.std.proofs.KnownBytes.{Consumes-nil, Consumes-kept, Consumes-trans, Appends-nil, Appends-trans}
@@ -7,23 +7,21 @@ use Rattle.std.specs.Prelude.{Option, Some, None, Result, Ok, Err, OnOk, All}
 use Rattle.std.specs.Io.{ReadsAtMost}
 use Rattle.std.specs.Io.KnownBytes.{Appends, Consumes, ReadConsumes}
 use Rattle.std.specs.declared.io.Error.{Error}
-use mathlib.Core.Logic.{◌⊎◌, inl, inr}
+use mathlib.Core.Logic.{inl, inr}
 use Rattle.state.specs.declared.State.{State}
-use Rattle.state.specs.Holding.{broken}
 use Rattle.batch.specs.declared.Refused.{Refused as Cause}
 use Rattle.batch.specs.declared.Refused.TheVariants.{Broken, TooManyLines, NoRoom}
-use Rattle.batch.specs.Feed.{verdict, fed, out_after, FeedEffect, closed, close_number}
-use Rattle.batch.specs.Series.{Call, Calls, state_of, is_accepted, wrote, wrote_all}
+use Rattle.batch.specs.Feed.{verdict, fed, FeedEffect}
+use Rattle.batch.specs.Series.{Call, Calls, state_of, is_accepted, wrote_all}
 use Rattle.batch.proofs.Room.{wrote_within}
 use Rattle.fade.specs.declared.run.End.{End}
-use Rattle.fade.specs.declared.run.End.TheVariants as End
 use Rattle.fade.specs.declared.run.Failure.{Failure}
 use Rattle.fade.specs.declared.run.Failure.TheVariants.{NotRead, NotWritten, OutOfReads}
 use Rattle.fade.specs.declared.run.Step.{Step}
 use Rattle.fade.specs.declared.run.Step.TheVariants.{Print, Stop}
-use Rattle.fade.specs.Run.{most_piece, most_reads, end_number, Next, if_written, AfterFeed, PieceTurn, AfterRead, AllAccepted, IsRead, pieces_of, AtInputEnd, AtRefusal, After, Written, Turns, Turn}
+use Rattle.fade.specs.Run.{most_piece, most_reads, Next, if_written, AfterFeed, PieceTurn, AfterRead, AllAccepted, IsRead, pieces_of, After, Written, Turns, Turn}
 
-abbrev Accepted : Call → Type 0
+abbrev pub Accepted : Call → Type 0
 Accepted c = is_accepted c ≡ true
 
 one_is : (P : Call → Type 0) (c : Call) → P c → All P (c ∷ [])
@@ -87,18 +85,21 @@ module _ (got : Result ℕ Error) (s : State) (l out : List ℕ) (s' : State) (o
       by : (got : Result ℕ Error) → AfterRead got s l out r s' out' → ReadConsumes left left' got l → (f : Failure) → r ≡ Err f → (held : Option (List ℕ)) → (cs : List Call) × Turn s s' left left' held held cs (Err f)
       by (Err e) (u, is) keeps f fails held =
           let f_is : f ≡ NotRead e = cc in
-          rw f_is ([], record {
-            turns = record {
-              made = tt;
-              state_is = u.state_is;
-              pieces = All-nil IsRead;
-              read = Consumes-kept left left left' [] (Consumes-nil left) keeps;
-              written = Appends-nil held;
-              after = All-nil Accepted;
-            };
-            at_most_one = omega arith;
-            one = λ e. absurd cc;
-          })
+          rw f_is (
+            [],
+            record {
+              turns = record {
+                made = tt;
+                state_is = u.state_is;
+                pieces = All-nil IsRead;
+                read = Consumes-kept left left left' [] (Consumes-nil left) keeps;
+                written = Appends-nil held;
+                after = All-nil Accepted;
+              };
+              at_most_one = omega arith;
+              one = λ e. absurd cc;
+            },
+          )
       by (Ok zero) (u, (end, (is, number_is))) b f fails held = absurd cc
       by (Ok (suc k)) (step, (is, t)) b f fails held = absurd cc
 
@@ -110,41 +111,45 @@ module _ (got : Result ℕ Error) (s : State) (l out : List ℕ) (s' : State) (o
       by : (got : Result ℕ Error) → AfterRead got s l out r s' out' → ReadsAtMost got l → ReadConsumes left left' got l → (end : End) → r ≡ Ok (Stop end) → (held : Option (List ℕ)) → (cs : List Call) × Turn s s' left left' held held cs (Ok (Some end))
       by (Err e) (u, is) n b end ends held = absurd cc
       by (Ok zero) (u, (end', (is, number_is))) n b end ends held =
-          let e : end' ≡ end = cc in
-          ([], record {
-            turns = record {
-              made = tt;
-              state_is = u.state_is;
-              pieces = All-nil IsRead;
-              read = b.0;
-              written = Appends-nil held;
-              after = inl (record { nothing_left = b.1 refl some; all_accepted = All-nil Accepted; number_is = rw e at number_is });
-            };
-            at_most_one = omega arith;
-            one = λ e. absurd cc;
-          })
+          let e : end' ≡ end = cc in (
+            [],
+            record {
+              turns = record {
+                made = tt;
+                state_is = u.state_is;
+                pieces = All-nil IsRead;
+                read = b.0;
+                written = Appends-nil held;
+                after = inl (record { nothing_left = b.1 refl some; all_accepted = All-nil Accepted; number_is = rw e at number_is });
+              };
+              at_most_one = omega arith;
+              one = λ e. absurd cc;
+            },
+          )
       by (Ok (suc k)) (step, (is, t)) n b end ends held =
           let e : step ≡ Stop end = cc in
-          let c = call s (take (suc k) l) out step s' out' t in
-          (c ∷ [], record {
-            turns = record {
-              made = call_made s (take (suc k) l) out step s' out' t;
-              state_is = call_state s (take (suc k) l) out step s' out' t;
-              pieces = one_is IsRead c (record { some = omega (arith, n.1); at_most = omega (arith, n.0, n.1) });
-              read = call_read s (take (suc k) l) out step s' out' t left left' b.0;
-              written = rw (none_printed s (take (suc k) l) out step s' out' t end e) (Appends-nil held);
-              after = inr (record {
-                before = [];
-                last = c;
-                calls_are = refl;
-                before_accepted = All-nil Accepted;
-                last_refused = (refused s (take (suc k) l) out step s' out' t end e).0;
-                number_is = rw (refused s (take (suc k) l) out step s' out' t end e).1 refl;
-              });
-            };
-            at_most_one = omega arith;
-            one = λ e. absurd cc;
-          })
+          let c = call s (take (suc k) l) out step s' out' t in (
+            c ∷ [],
+            record {
+              turns = record {
+                made = call_made s (take (suc k) l) out step s' out' t;
+                state_is = call_state s (take (suc k) l) out step s' out' t;
+                pieces = one_is IsRead c (record { some = omega (arith, n.1); at_most = omega (arith, n.0, n.1) });
+                read = call_read s (take (suc k) l) out step s' out' t left left' b.0;
+                written = rw (none_printed s (take (suc k) l) out step s' out' t end e) (Appends-nil held);
+                after = inr (record {
+                  before = [];
+                  last = c;
+                  calls_are = refl;
+                  before_accepted = All-nil Accepted;
+                  last_refused = (refused s (take (suc k) l) out step s' out' t end e).0;
+                  number_is = rw (refused s (take (suc k) l) out step s' out' t end e).1 refl;
+                });
+              };
+              at_most_one = omega arith;
+              one = λ e. absurd cc;
+            },
+          )
 
   -- n bytes of answers are printed, and what was written of them was told
   pub turn_within : (n : ℕ) → r ≡ Ok (Print n) → n ≤ length out
@@ -167,16 +172,16 @@ module _ (got : Result ℕ Error) (s : State) (l out : List ℕ) (s' : State) (o
           let text = printed s (take (suc k) l) out step s' out' t n e in
           let ok : is_accepted c ≡ true = rw (accepted s (take (suc k) l) out step s' out' t n e) refl in
           let turns : (next : Next) → Written next held held' (wrote_all (c ∷ [])) → After next left' s (c ∷ []) → Turns s s' left left' held held' (c ∷ []) next
-            = λ next written after. record {
-              made = call_made s (take (suc k) l) out step s' out' t;
-              state_is = call_state s (take (suc k) l) out step s' out' t;
-              pieces = one_is IsRead c (record { some = omega (arith, m.1); at_most = omega (arith, m.0, m.1) });
-              read = call_read s (take (suc k) l) out step s' out' t left left' b.0;
-              written = written;
-              after = after;
-            } in
+          = λ next written after. record {
+            made = call_made s (take (suc k) l) out step s' out' t;
+            state_is = call_state s (take (suc k) l) out step s' out' t;
+            pieces = one_is IsRead c (record { some = omega (arith, m.1); at_most = omega (arith, m.0, m.1) });
+            read = call_read s (take (suc k) l) out step s' out' t left left' b.0;
+            written = written;
+            after = after;
+          } in
           elim w as (λ w. OnOk w (Appends held held' (take n out')) → (cs : List Call) × Turn s s' left left' held held' cs (if_written None w)) [
-            Ok u ↦ λ h. (c ∷ [], record { turns = turns (Ok None) (rw text h) (one_is Accepted c ok); at_most_one = omega arith; one = λ e. refl })
+            | Ok u ↦ λ h. (c ∷ [], record { turns = turns (Ok None) (rw text h) (one_is Accepted c ok); at_most_one = omega arith; one = λ e. refl })
             | Err f ↦ λ h. (c ∷ [], record { turns = turns (Err (NotWritten f)) (rw text front) (one_is Accepted c ok); at_most_one = omega arith; one = λ e. absurd cc })
           ] whole
 
@@ -191,7 +196,7 @@ unfolding state_of
 state_append s [] ds = refl
 state_append s (c ∷ cs) ds = state_append c.returned.state cs ds
 
-pieces_append : (cs ds : List Call) → pieces_of (cs ++ ds) ≡ pieces_of cs ++ pieces_of ds
+pub pieces_append : (cs ds : List Call) → pieces_of (cs ++ ds) ≡ pieces_of cs ++ pieces_of ds
 unfolding pieces_of
 pieces_append [] ds = refl
 pieces_append (c ∷ cs) ds = rw (pieces_append cs ds, append_assoc)

@@ -1,17 +1,23 @@
--- Document 01, "One pair, one answer": what the batch program does between what it reads and what it prints.
-use Rattle.std.specs.Prelude.{ℕ, zero, suc, ◌≡◌, ◌<◌, ◌≤◌, true, ◌⊎◌, List, [], ◌∷◌, ◌++◌, Option, None, Some, Result, Ok, Err}
-use Rattle.std.specs.Prelude.{All, MatchResult, take, length}
+-- Document 01, "One pair, one answer": what the batch program does between what it reads and what it prints. `left`
+-- is what the input has left and `held` what the output holds: the bytes where the reader or the writer says them, as
+-- one over memory does, and None where it does not, as standard input and output. With a prime they are as they stand
+-- afterwards. The same code runs over both.
+use Rattle.std.specs.Prelude.{ℕ, zero, suc, ◌≡◌, ◌<◌, ◌≤◌, true, ◌⊎◌, List, [], ◌∷◌, ◌++◌}
+use Rattle.std.specs.Prelude.{Option, None, Some, Result, Ok, Err}
+use Rattle.std.specs.Prelude.{All, OnOk, cond, eqb, take, length}
 use Rattle.std.specs.declared.io.Error.{Error}
 use Rattle.std.specs.Io.KnownBytes.{Appends, Consumes, IsAtEnd}
 use Rattle.state.specs.declared.State.{State}
 use Rattle.batch.specs.declared.Refused.{Refused as Cause}
 use Rattle.batch.specs.declared.Refused.TheVariants.{Broken, TooManyLines, NoRoom}
-use Rattle.state.specs.Holding.{fresh}
+use Rattle.state.specs.Holding.{tail_of, fresh}
+use Rattle.scan.specs.Complete.{lines, rest, line_feeds}
+use Rattle.piece.specs.Counts.{tallies_of}
+use Rattle.piece.specs.Piece.{most_lines, replies, answer_lines}
 use Rattle.batch.specs.Feed.{verdict, fed, out_after, FeedEffect, closed, close_number}
 use Rattle.totals.specs.Totals.{totals, end_line}
 use Rattle.batch.specs.Series.{Call, Calls, state_of, is_accepted, wrote_all}
 use Rattle.fade.specs.declared.run.End.{End}
-use Rattle.fade.specs.declared.run.End.TheVariants as End
 use Rattle.fade.specs.declared.run.Failure.{Failure}
 use Rattle.fade.specs.declared.run.Failure.TheVariants.{NotRead, NotWritten, OutOfReads}
 use Rattle.fade.specs.declared.run.Step.{Step}
@@ -131,14 +137,16 @@ pub record Turn (s s' : State) (left left' held held' : Option (List ℕ)) (cs :
   pub at_most_one : length cs ≤ 1
   pub one : next ≡ Ok None → length cs ≡ 1
 
--- what comes after the last turn
-abbrev pub last : Result End Failure → Next
-last (Ok end) = Ok (Some end)
-last (Err failure) = Err failure
+-- what comes after the turn that ends the reading
+abbrev pub end_or_nothing : Result End Failure → Next
+end_or_nothing (Ok end) = Ok (Some end)
+end_or_nothing (Err failure) = Err failure
 
 -- the turns up to the one that ends the reading
-abbrev pub Run : State → State → Option (List ℕ) → Option (List ℕ) → Option (List ℕ) → Option (List ℕ) → List Call → Result End Failure → Type 0
-Run s s' left left' held held' cs r = Turns s s' left left' held held' cs (last r)
+abbrev pub Run :
+    State → State → Option (List ℕ) → Option (List ℕ) → Option (List ℕ) → Option (List ℕ) → List Call
+    → Result End Failure → Type 0
+Run s s' left left' held held' cs r = Turns s s' left left' held held' cs (end_or_nothing r)
 
 -- What is printed after the answer lines: "then one line of totals, then `end=8` if a tail is unfinished", and "after
 -- the totals it then prints `end=6` alone".
@@ -169,3 +177,24 @@ pub record WholeRun (left left' held held' : Option (List ℕ)) (r : Result End 
 abbrev pub status : Result End Failure → ℕ
 status (Ok end) = end_number end
 status (Err failure) = 1
+
+-- The state after the bytes of an input, in demand 3's words: "The state's count of lines is the number of those
+-- lines, and the six tallies count them by route or as bad. The unfinished tail is held, or marked if over-long."
+abbrev pub state_after_input : List ℕ → State
+state_after_input bytes =
+    record { tail = tail_of (rest bytes); lines = length (lines bytes); tallies = tallies_of (replies (lines bytes)) }
+
+-- What the program prints for an input: "prints the answer lines, then one line of totals, then `end=8` if a tail is
+-- unfinished".
+abbrev pub whole_output : List ℕ → List ℕ
+whole_output bytes =
+    answer_lines (lines bytes)
+    ++ (totals (state_after_input bytes) ++ end_line (cond (eqb (length (rest bytes)) 0) 0 8))
+
+-- A run over an input that is known and has no more lines than can be counted, onto an output that is known: where it
+-- did not fail, nothing is left of the input, and the output has grown by what the program prints for it.
+abbrev pub PrintsAll :
+    Option (List ℕ) → Option (List ℕ) → Option (List ℕ) → Option (List ℕ) → Result End Failure → Type 0
+PrintsAll left left' held held' r =
+    (bytes before : List ℕ) → left ≡ Some bytes → held ≡ Some before → line_feeds bytes ≤ most_lines
+    → OnOk r ((left' ≡ Some []) × (held' ≡ Some (before ++ whole_output bytes)))

@@ -7,5 +7,7 @@ use Rattle.fade.specs.declared.task.Task.TheVariants.{Answer, Help, Version, Usa
 -- more than one, gets a line of usage
 abbrev pub task_of : List (List ℕ) → Task
 task_of [] = Answer
-task_of (arg ∷ []) = if bytes_eq arg (codes "--help") then Help else (if bytes_eq arg (codes "--version") then Version else Usage)
+task_of (arg ∷ []) =
+    if bytes_eq arg (codes "--help") then Help
+    else (if bytes_eq arg (codes "--version") then Version else Usage)
 task_of (arg ∷ (next ∷ more)) = Usage

@@ -9,10 +9,11 @@ ghost use Rattle.std.specs.Process.{exit_status};
 ghost use Rattle.state.specs.Holding.{fresh, broken};
 ghost use Rattle.batch.specs.Feed.{closed, close_number};
 ghost use Rattle.batch.specs.Series.{Call};
-ghost use Rattle.fade.specs.Run.{end_number, if_written, PieceTurn, AfterRead, Turn, Run, LastLines, WholeRun, status};
+ghost use Rattle.fade.specs.Run.{end_number, if_written, PieceTurn, AfterRead, Turn, Run};
+ghost use Rattle.fade.specs.Run.{LastLines, WholeRun, PrintsAll, status};
 
-use batch::{ANSWER_GROWTH, NotClosed, OVER_LONG, Refused, State, TOTALS};
 use crate::stream::{read_some, write_whole};
+use batch::{ANSWER_GROWTH, NotClosed, OVER_LONG, Refused, State, TOTALS};
 use std::io;
 use std::io::{Read, Write};
 use std::process::ExitCode;
@@ -91,7 +92,8 @@ impl Workspace {
         output: &mut W,
     ) -> Result<End, Failure>
         ensures { (calls : List Call) × Run self.old.state self.new.state
-            (R.remaining input.old) (R.remaining input.new) (W.contents output.old) (W.contents output.new) calls result }
+            (R.remaining input.old) (R.remaining input.new) (W.contents output.old) (W.contents output.new)
+            calls result }
     {
         for _reads in 0..READS {
             if let Some(end) = self.take_turn(rt, input, output)? {
@@ -109,7 +111,8 @@ impl Workspace {
         output: &mut W,
     ) -> Result<Option<End>, Failure>
         ensures { (calls : List Call) × Turn self.old.state self.new.state
-            (R.remaining input.old) (R.remaining input.new) (W.contents output.old) (W.contents output.new) calls result }
+            (R.remaining input.old) (R.remaining input.new) (W.contents output.old) (W.contents output.new)
+            calls result }
     {
         let got = read_some(rt, input, &mut self.piece);
         match self.after_read(got)? {
@@ -146,7 +149,8 @@ impl Workspace {
     #[tactic(auto, using(crate::proofs::Feeds::feeds_go_on))]
     fn answer_piece(&mut self, n: usize) -> Step
         requires { n ≤ PIECE }
-        ensures turn { PieceTurn self.old.state (take n self.old.piece) self.old.out result self.new.state self.new.out }
+        ensures turn { PieceTurn self.old.state (take n self.old.piece) self.old.out
+            result self.new.state self.new.out }
         ensures piece_kept { self.new.piece ≡ self.old.piece }
     {
         let fed = batch::feed(self.state, &self.piece[..n], &mut self.out);
@@ -190,7 +194,9 @@ pub(crate) fn answer_all<R: Read, W: Write>(
     input: &mut R,
     output: &mut W,
 ) -> Result<End, Failure>
-    ensures { WholeRun (R.remaining input.old) (R.remaining input.new)
+    ensures whole_run { WholeRun (R.remaining input.old) (R.remaining input.new)
+        (W.contents output.old) (W.contents output.new) result }
+    ensures prints_all { PrintsAll (R.remaining input.old) (R.remaining input.new)
         (W.contents output.old) (W.contents output.new) result }
 {
     let mut workspace = Workspace::new();
@@ -209,10 +215,6 @@ pub(crate) fn exit_code(ended: Result<End, Failure>) -> ExitCode
 }
 
 // Prints a text that is no answer.
-pub(crate) fn print<W: Write>(
-    rt: &impl Clock,
-    output: &mut W,
-    text: &str,
-) -> Result<End, Failure> {
+pub(crate) fn print<W: Write>(rt: &impl Clock, output: &mut W, text: &str) -> Result<End, Failure> {
     if_written(End::Finished, write_whole(rt, output, text.as_bytes()))
 }

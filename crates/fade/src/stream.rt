@@ -6,11 +6,10 @@ ghost use Rattle.std.specs.Io.{ReadsAtMost};
 ghost use Rattle.std.specs.Io.KnownBytes.{Appends, ReadConsumes};
 ghost use Rattle.fade.specs.Stream.{settled};
 
-use std::io;
 use std::io::{ErrorKind, Read, Write};
 use std::rt::Clock;
-use std::thread;
 use std::time::Duration;
+use std::{io, thread};
 
 // The most tries of one read or write: none comes to so many. A loop has to end, so they are counted.
 const TRIES: u64 = 0xffff_ffff_ffff_ffff;
@@ -54,11 +53,7 @@ pub(crate) fn read_some<R: Read>(
 }
 
 // Writes a whole text, or fails and has written a front of it.
-pub(crate) fn write_whole<W: Write>(
-    rt: &impl Clock,
-    output: &mut W,
-    text: &[u8],
-) -> io::Result<()>
+pub(crate) fn write_whole<W: Write>(rt: &impl Clock, output: &mut W, text: &[u8]) -> io::Result<()>
     ensures front { (k : ℕ) × Appends (W.contents output.old) (W.contents output.new) (take k text.now) }
     ensures whole { OnOk result (Appends (W.contents output.old) (W.contents output.new) text.now) }
 {

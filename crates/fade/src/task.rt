@@ -2,9 +2,8 @@
 ghost use Rattle.std.specs.Prelude.{◌≡◌, map, string_bytes};
 ghost use Rattle.fade.specs.Task.{task_of};
 
-use std::env;
-use std::io;
 use std::rt::Env;
+use std::{env, io};
 
 // What the program is to do.
 #[derive(Clone, Copy)]

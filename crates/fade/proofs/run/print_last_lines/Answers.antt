@@ -1,5 +1,5 @@
 -- The text that is written is the front of the array.
-use Rattle.std.proofs.Common.{◌≡◌, ◌++◌, length, take, arith}
+use Rattle.std.proofs.Common.{◌≡◌, ◌++◌, take, arith}
 use Rattle.std.proofs.lemmas.Grind.{common_steps}
 use Rattle.text.specs.Bytes.{put}
 use Rattle.totals.specs.Totals.{totals, end_line}

@@ -1,5 +1,5 @@
 -- What one write took is gone from the text; one that is tried again took nothing.
-use Rattle.std.proofs.Common.{◌≡◌, ℕ, ◌+◌, ◌∙◌, sym, ap, refl, true, false, Bool, cond, List, take, drop}
+use Rattle.std.proofs.Common.{◌≡◌, ℕ, ◌+◌, ◌∙◌, sym, ap, true, false, Bool, cond, List, take, drop}
 use Rattle.std.proofs.Math.Seq.{take-add, drop-drop}
 use Rattle.std.proofs.lemmas.List.{take_rest}
 use Rattle.std.specs.Prelude.{Option, Some, None, Result, Ok, Err}
@@ -28,7 +28,7 @@ loop-preserved g c =
     let (k, rest_is, appended) = c.loop.invariant in
     let rest = c.loop.rest.now in
     elim c.match-settled.branch [
-      in-None w ↦ (k, ap (λ r. r.now) w.rest-is ∙ rest_is, Appends-kept _ _ _ _ appended (none_taken c.write.result _ _ rest (sym c.settled.ensures ∙ w.in-None.is) c.write.ensures.bytes))
+      | in-None w ↦ (k, ap (λ r. r.now) w.rest-is ∙ rest_is, Appends-kept _ _ _ _ appended (none_taken c.write.result _ _ rest (sym c.settled.ensures ∙ w.in-None.is) c.write.ensures.bytes))
       | in-Some-Ok w ↦
           let n = w.in-Some-Ok.n in
           let took = taken c.write.result n _ _ rest (sym c.settled.ensures ∙ w.in-Some-Ok.is ∙ ap Some w.in-Some-Ok.field-0-is) c.write.ensures.bytes in

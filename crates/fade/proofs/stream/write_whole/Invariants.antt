@@ -1,5 +1,5 @@
 -- What is gone from the text was written.
-use Rattle.std.proofs.Common.{◌≡◌, ℕ, ◌+◌, take, drop}
+use Rattle.std.proofs.Common.{◌≡◌, ℕ, take, drop}
 use Rattle.std.specs.Io.KnownBytes.{Appends}
 use Rattle.fade.proofs.stream.write_whole.Given as goal
 

@@ -1,6 +1,6 @@
 -- Each turn is put after those before it.
-use Rattle.std.proofs.Common.{◌≡◌, ◌+◌, [], ◌++◌, ◌∙◌, ap, sym, refl, length, length-append, rules, arith}
-use Rattle.std.specs.Prelude.{Ok, Err, None, Some}
+use Rattle.std.proofs.Common.{◌≡◌, [], ◌++◌, ◌∙◌, ap, refl, length-append, arith}
+use Rattle.std.specs.Prelude.{Ok, None}
 use Rattle.std.proofs.lemmas.Result.{err_from_is_err_and}
 use Rattle.fade.proofs.Turns.{turns_append, out_of_reads, no_turns}
 use Rattle.fade.proofs.run.Workspace.answer_input.Goals as goal

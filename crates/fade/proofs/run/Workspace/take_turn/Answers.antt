@@ -1,6 +1,6 @@
 -- By what comes after the read, it is a turn with no call of feed or one.
-use Rattle.std.proofs.Common.{ap, rules, ◌∙◌, ◌<◌, ◌≤◌, ◌≡◌, length, arith}
-use Rattle.std.specs.Prelude.{Ok, Err}
+use Rattle.std.proofs.Common.{ap, rules, ◌∙◌, ◌≤◌, ◌≡◌, length, arith}
+use Rattle.std.specs.Prelude.{Ok}
 use Rattle.std.proofs.lemmas.Result.{err_from_is_err_and}
 use Rattle.fade.specs.declared.run.TheConstants.{PIECE, ANSWERS}
 use Rattle.fade.proofs.Turns.{turn_failed, turn_ended, turn_within, turn_printed}
@@ -18,7 +18,10 @@ shared_ref_as_front-write_whole g c =
     let got = c.read_some-got in
     let long : length got.new.piece ≡ PIECE = search rules in
     let room : length c.args.self.now.out ≡ ANSWERS = search rules in
-    rw (← room) (turn_within got.result _ got.new.piece c.args.self.now.out _ _ c.after_read.result c.after_read.ensures.turn _ _ got.ensures.bound got.ensures.bytes (omega arith) (omega arith) c.in-Print.n (c.in_ok-end.was ∙ ap Ok c.in-Print.is))
+    let within : c.in-Print.n ≤ length c.args.self.now.out =
+    turn_within got.result _ got.new.piece c.args.self.now.out _ _ c.after_read.result c.after_read.ensures.turn _ _ got.ensures.bound got.ensures.bytes (omega arith) (omega arith) c.in-Print.n (c.in_ok-end.was ∙ ap Ok c.in-Print.is)
+    in
+    omega arith
 
 pub returns-in-Stop : goal.returns-in-Stop
 returns-in-Stop g c =
