@@ -1,8 +1,7 @@
 -- The claims at pairs that a reader can check by hand, all computed: x = -1 gives no NaN, an underflow gives +0, the bound on whole exponents holds neither of
--- an answer that is always 1 nor of squarings in f32, its two ends are one f32 where E is one, overflows or underflows, and 2^-54 in it is too small. Assumes nothing.
+-- an answer that is always 1 nor of squarings in f32, and 2^-54 in it is too small. Pairs at which its two ends are one f32 are in specs/Witnesses.antt. Assumes nothing.
 use mathlib.Core.Path.{◌≡◌, refl}
 use mathlib.Core.Bool.{Bool, false}
-use Prim.Native.Nat.{ℕ, ◌+◌, ◌-◌, ◌*◌, ◌^◌}
 use lib.Dec.{lit<}
 use lib.Ieee.{Float, binary32, of_bits, to_bits, to_unsigned, round, add, mul, div, lt, le, eq, is_nan}
 use Rattle.floats.specs.Narrowing.{narrowed, nearest_f32}
@@ -11,12 +10,10 @@ use Rattle.special.specs.Special.{one, is_zero, is_special, is_rule, from_minus_
 use Rattle.whole.specs.Whole as Whole
 use Rattle.whole.specs.Whole.{is_whole, is_tiny, squarings, whole_power}
 use Rattle.compound.specs.Route.{compound}
-use Rattle.answers.specs.Claims.{answer, NanExactly, SignClear}
+use Rattle.answers.specs.Claims.{answer, NanExactly, SignClear, lower_end, upper_end}
+use Rattle.answers.specs.Witnesses.{f32}
 use Rattle.answers.specs.Exact as Exact
 use Rattle.answers.specs.Exact.{Fraction, exact_base, exact}
-
-abbrev f32 : ℕ → Float
-f32 n = of_bits binary32 n
 
 -- x = -1 is no NaN: 0^1 is +0
 pub at_minus_one : NanExactly (f32 0xbf800000) (f32 0x3f800000)
@@ -30,7 +27,7 @@ underflow number = lit< tt
 
 -- whether r is at least the nearest f32 to E × (1 - 2^-47)
 abbrev at_least : Fraction → Float → Bool
-at_least E r = le (nearest_f32 (E.top * (2 ^ 47 - 1)) (E.bottom * 2 ^ 47)) r
+at_least E r = le (lower_end 47 E) r
 
 -- (1 + 1/2)^2 is not 1
 pub not_always_one : at_least (exact (f32 0x3f000000) (f32 0x40000000)) one ≡ false
@@ -45,21 +42,11 @@ pub not_in_f32 : at_least (exact (f32 0x3f800001) (f32 0x40000000)) (square (f32
 unfolding exact Exact.raised exact_base of_bits nearest_f32 round le add mul
 not_in_f32 = refl
 
--- ---- the two ends of the bound
-abbrev ends : Fraction → Float × Float
-ends E = (nearest_f32 (E.top * (2 ^ 47 - 1)) (E.bottom * 2 ^ 47), nearest_f32 (E.top * (2 ^ 47 + 1)) (E.bottom * 2 ^ 47))
-
--- 2^-16, an overflow and an underflow: both ends are the answer
-pub both_ends : (ends (exact (f32 0x3f800000) (f32 0xc1800000)) ≡ (f32 0x37800000, f32 0x37800000)) × (ends (exact (f32 0x5f000000) (f32 0x41800000)) ≡ (f32 0x7f800000, f32 0x7f800000))
-    × (ends (exact (f32 0x5f000000) (f32 0xc1800000)) ≡ (f32 0, f32 0))
-unfolding exact Exact.raised Exact.raised_inverse exact_base of_bits nearest_f32 round
-both_ends = (refl, refl, refl)
-
 -- ---- 2^-54 is not only past the proof, but false: this answer is above the nearest f32 to E × (1 + 2^-54)
 pub answer_of_8 : answer (f32 0x3c55563d) (f32 0x41000000) ≡ f32 0x3f8df512
 unfolding of_bits to_unsigned add mul div lt le eq is_nan narrowed absolute is_integer is_zero is_special is_rule is_whole is_tiny squarings whole_power Whole.whole compound
 answer_of_8 = refl
 
-pub end_of_54 : nearest_f32 ((exact (f32 0x3c55563d) (f32 0x41000000)).top * (2 ^ 54 + 1)) ((exact (f32 0x3c55563d) (f32 0x41000000)).bottom * 2 ^ 54) ≡ f32 0x3f8df511
+pub end_of_54 : upper_end 54 (exact (f32 0x3c55563d) (f32 0x41000000)) ≡ f32 0x3f8df511
 unfolding exact Exact.raised exact_base of_bits nearest_f32 round
 end_of_54 = refl

@@ -2,9 +2,8 @@
 -- whose t is a NaN. Assumes nothing.
 use mathlib.Core.Path.{◌≡◌, refl}
 use mathlib.Core.Bool.{true, false}
-use Prim.Native.Nat.{ℕ}
 use lib.IntN.{pos}
-use lib.Ieee.{Float, fin, binary32, of_bits, of_int, to_bits, to_signed, add, sub, mul, lt, le, eq, ne, is_nan}
+use lib.Ieee.{fin, of_bits, of_int, to_bits, to_signed, add, sub, mul, lt, le, eq, ne, is_nan}
 use Rattle.floats.specs.Operations.{◌⊗◌}
 use Rattle.floats.specs.Narrowing.{narrowed, nearest_whole}
 use Rattle.floats.specs.OnBits.{absolute, is_integer}
@@ -18,9 +17,7 @@ use Rattle.fast_path.specs.Fast.{factor, expf_poly, log2p1, inverse_index, compo
 use Rattle.slow_path.specs.Slow.{with_term, next_log2, higher, log2_poly2, one_plus, times_inverse, sum_of_logs, log2_reduced, compoundf_log2p1_accurate}
 use Rattle.compound.specs.Route.{decided, from_logarithm, table_path, compound}
 use Rattle.answers.specs.Reached.{slow_k, slow_rest}
-
-abbrev f32 : ℕ → Float
-f32 n = of_bits binary32 n
+use Rattle.answers.specs.Witnesses.{f32}
 
 -- 2^-148.5 and 2^-147.5: what is left is -1/2 and 1/2
 pub slow_halves : ((compound (f32 0x3f800000) (f32 0xc3148000)).via ≡ slow) × ((compound (f32 0x3f800000) (f32 0xc3138000)).via ≡ slow)
@@ -32,11 +29,8 @@ pub index_ends : (power_place (slow_rest (f32 0x3f800000) (f32 0xc3148000)) ≡ 
 unfolding of_bits to_bits of_int add sub mul lt le eq narrowed nearest_whole absolute split from_exact_mult from_full_exact_add from_exact_add quick_mult quick_mult_f64 full_add_f64 dd_fmla entry from_bit_pair pair_entry log2p1_compoundf_inv log2p1_compoundf_log2_inv log2p1_scale log2p1_log2_poly biased exponent_of inverse_index with_term next_log2 higher log2_poly2 one_plus times_inverse sum_of_logs log2_reduced compoundf_log2p1_accurate
 index_ends = (refl, refl)
 
--- "The comment |k| <= 150 fails on the slow path for tiny x: with x just under 1.5 × 2^-52 the fast logarithm is about two thirds of the true one"
-pub slow_of_tiny : (compound (f32 0x25bfffff) (f32 0xdcce6666)).via ≡ slow
-unfolding of_bits to_bits to_signed of_int add sub mul lt le eq ne is_nan narrowed nearest_whole absolute is_integer is_zero is_special is_rule is_whole split from_exact_mult from_full_exact_add from_exact_add full_add_f64 dd_fmla entry from_bit_pair pair_entry log2p1_compoundf_inv log2p1_compoundf_log2_inv compoundf_exp2_t compoundf_exp2_u log2p1_poly_p expf_poly_q scaled biased exponent_of inverse_index factor log2p1 expf_poly power_index exp2_reduced rounding_test exp2_fast decided from_logarithm table_path compound
-slow_of_tiny = refl
-
+-- "The comment |k| <= 150 fails on the slow path for tiny x: with x just under 1.5 × 2^-52 the fast logarithm is about two thirds of the true one". That
+-- this pair is of the route `slow` is in specs/Witnesses.antt.
 pub k_past_150 : le (absolute (slow_k (f32 0x25bfffff) (f32 0xdcce6666))) (fin false 75 (pos 1)) ≡ false
 unfolding of_bits to_bits of_int add sub mul lt le eq narrowed nearest_whole absolute split from_exact_mult from_full_exact_add from_exact_add quick_mult quick_mult_f64 full_add_f64 dd_fmla entry from_bit_pair pair_entry log2p1_compoundf_inv log2p1_compoundf_log2_inv log2p1_scale log2p1_log2_poly biased exponent_of inverse_index with_term next_log2 higher log2_poly2 one_plus times_inverse sum_of_logs log2_reduced compoundf_log2p1_accurate
 k_past_150 = refl

@@ -16,8 +16,7 @@ use Rattle.whole.specs.Whole.{is_whole, is_tiny, tiny, squarings, whole_power}
 use Rattle.fast_path.specs.Scaling.{scaled, biased, exponent_of}
 use Rattle.fast_path.specs.Fast.{factor, expf_poly, log2p1, inverse_index, power_index, exp2_reduced, rounding_test, exp2_fast, HasInverse, HasPower}
 use Rattle.filter.specs.Midpoints.{narrowed_pattern}
-use Rattle.filter.specs.Plain as Plain
-use Rattle.filter.specs.Plain.{part_of, rest_of, plain_pattern, near_midpoint, rounded_pattern, middle_found, low_found, high_found, tiny_found, plain_found}
+use Rattle.filter.specs.Plain.{part_of, rest_of, plain_pattern, near_midpoint, rounded_pattern, middle_found, low_found, high_found, tiny_found, is_tiny_t, plain_found}
 use Rattle.slow_path.specs.Slow.{with_term, next_log2, higher, log2_poly2, one_plus, times_inverse, sum_of_logs, log2_reduced, compoundf_log2p1_accurate, next_exp2, highest_exp2, compoundf_exp2_poly2, clamped_index, clamped_k, err_of, test_pattern, is_lost, one_towards, rounded_to_odd, scaled_to_f32, exp2_product, is_small, exp2_away, is_near_one, exp2_accurate, compoundf_accurate}
 use Rattle.compound.specs.Route.{decided, from_logarithm, table_path, compound}
 use Rattle.compound.specs.Starred.{defined, stated}
@@ -26,7 +25,7 @@ use Rattle.answers.specs.Exact.{exact_base, exact}
 use Rattle.answers.specs.Claims.{whole_to16, x_in_range, AnyOther}
 use Rattle.answers.specs.Reached.{PastRule, OnSlow}
 use Rattle.answers.specs.Unstarred.{UnstarredPairs}
-use Rattle.answers.specs.Witnesses.{f32, AtEach, AtNone, whole_ys, other_ys, xs_in_range, other_xs, bounded, is_bounded, ends, closed, is_nan_at, nan_answers, found_at, filtered_pairs, Witnesses}
+use Rattle.answers.specs.Witnesses.{f32, AtEach, AtNone, whole_ys, other_ys, xs_in_range, other_xs, bounded, is_bounded, ends, answer_twice, is_nan_at, nan_answers, found_at, filtered_pairs, Witnesses}
 
 -- ---- document 01's rows without a star
 pub unstarred_pairs : UnstarredPairs
@@ -42,7 +41,7 @@ xs : AtEach x_in_range xs_in_range × AtNone x_in_range other_xs
 unfolding of_bits lt le eq is_zero x_in_range
 xs = (refl, refl)
 
-bound : (list_all is_bounded bounded ≡ true) × (map defined bounded ≡ map stated bounded) × (map ends bounded ≡ map closed bounded)
+bound : (list_all is_bounded bounded ≡ true) × (map defined bounded ≡ map stated bounded) × (map ends bounded ≡ map answer_twice bounded)
 unfolding of_bits to_unsigned round add mul div lt le eq is_nan narrowed nearest_f32 absolute is_integer is_zero is_special is_rule is_whole is_tiny tiny squarings whole_power Whole.whole compound whole_to16 x_in_range exact exact_base Exact.raised Exact.raised_inverse
 bound = (refl, refl, refl)
 
@@ -74,7 +73,7 @@ unfolding of_bits to_bits add inverse_index power_index
 indices = ((lit≤ tt, lit< tt), (lit≤ tt, lit< tt))
 
 filter : map (λ p. found_at p.0) filtered_pairs ≡ map (λ p. p.1) filtered_pairs
-unfolding of_bits to_bits to_signed of_int neg add sub mul lt le eq narrowed nearest_whole entry from_bit_pair pair_entry log2p1_compoundf_inv log2p1_compoundf_log2_inv compoundf_exp2_t compoundf_exp2_u log2p1_poly_p expf_poly_q scaled biased exponent_of inverse_index factor log2p1 expf_poly power_index narrowed_pattern part_of rest_of plain_pattern near_midpoint rounded_pattern middle_found low_found high_found tiny_found Plain.is_tiny_t plain_found
+unfolding of_bits to_bits to_signed of_int neg add sub mul lt le eq narrowed nearest_whole entry from_bit_pair pair_entry log2p1_compoundf_inv log2p1_compoundf_log2_inv compoundf_exp2_t compoundf_exp2_u log2p1_poly_p expf_poly_q scaled biased exponent_of inverse_index factor log2p1 expf_poly power_index narrowed_pattern part_of rest_of plain_pattern near_midpoint rounded_pattern middle_found low_found high_found tiny_found is_tiny_t plain_found
 filter = refl
 
 pub witnesses : Witnesses

@@ -50,8 +50,13 @@ Near k E r = T (le (lower_end k E) r) × T (le r (upper_end k E))
 unfoldable pub WholeBound : Float → Float → Type 0
 WholeBound x y = T (whole_to16 y) → T (x_in_range x) → Near 47 (exact x y) (answer x y)
 
--- all three, for the f32s of two patterns
+-- and E is a number there: its bottom is not 0
+unfoldable pub ExactNumber : Float → Float → Type 0
+ExactNumber x y = T (whole_to16 y) → T (x_in_range x) → 0 < (exact x y).bottom
+
+-- all of them, for the f32s of two patterns
 pub record Claims (nx ny : ℕ) : Type 0 where
   pub nan_exactly : NanExactly (of_bits binary32 nx) (of_bits binary32 ny)
   pub sign_clear : SignClear (of_bits binary32 nx) (of_bits binary32 ny)
   pub whole_bound : WholeBound (of_bits binary32 nx) (of_bits binary32 ny)
+  pub exact_number : ExactNumber (of_bits binary32 nx) (of_bits binary32 ny)

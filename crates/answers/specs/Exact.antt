@@ -25,7 +25,7 @@ unfoldable pub raised_inverse : Fraction → ℕ → Fraction
 raised_inverse a n = record { top = a.bottom ^ n; bottom = a.top ^ n }
 
 -- E = (1+x)^y: with y = ±n it is (1+x)^n or 1 / (1+x)^n. An infinity and a NaN are no exponents here, and the 0 is
--- without effect. Where the bound is claimed the bottom is above 0 (`base` in proofs/Whole/OnePlus.antt).
+-- without effect. Where the bound is claimed the bottom is above 0 (`ExactNumber` in specs/Claims.antt).
 unfoldable pub exact : Float → Float → Fraction
 exact x nan = record { top = 0; bottom = 1 }
 exact x (inf s) = record { top = 0; bottom = 1 }

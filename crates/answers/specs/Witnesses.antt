@@ -1,16 +1,15 @@
 -- A claim with a condition says nothing if the condition never holds. So each condition of Claims.antt and
--- Reached.antt, and some of the crates below, is computed here: it holds at the pairs that are listed, and it does
--- not at others beside them.
+-- Reached.antt, and those of the table path, is computed here: it holds at pairs that are listed, and those that are
+-- tests of x or y fail at others beside them.
 use Rattle.std.specs.Prelude.{ℕ, ◌≡◌, List, [], ◌∷◌, map, Bool, true, not, ◌&&◌, Option, Some, None, Float}
 use Rattle.std.specs.List.{list_all}
 use Rattle.std.specs.Float.{binary32}
 use Rattle.std.specs.Float.Ieee.{of_bits, is_nan}
-use Rattle.floats.specs.Operations.{◌⊗◌}
 use Rattle.special.specs.Special.{zero, one, is_rule}
 use Rattle.special.specs.Operands.{Tabled}
 use Rattle.fast_path.specs.Fast.{HasInverse, HasPower}
 use Rattle.filter.specs.declared.Found.{Found}
-use Rattle.filter.specs.Plain.{plain_log2p1, plain_found}
+use Rattle.filter.specs.Plain.{filtered}
 use Rattle.compound.specs.declared.Route.TheVariants.{Whole as whole}
 use Rattle.compound.specs.Starred.{Row, row, defined, stated}
 use Rattle.answers.specs.Exact.{exact}
@@ -71,8 +70,8 @@ abbrev pub ends : Row → Float × Float
 ends w = (lower_end 47 (exact (f32 w.x) (f32 w.y)), upper_end 47 (exact (f32 w.x) (f32 w.y)))
 
 -- both are the row's answer
-abbrev pub closed : Row → Float × Float
-closed w = (f32 w.r, f32 w.r)
+abbrev pub answer_twice : Row → Float × Float
+answer_twice w = (f32 w.r, f32 w.r)
 
 -- ---- "any other answer"
 -- x < -1, and a NaN on either side: here it is none
@@ -84,7 +83,7 @@ is_nan_at p = is_nan (answer (f32 p.0) (f32 p.1))
 
 -- ---- what the filter finds: each of its cases, and none
 abbrev pub found_at : (ℕ × ℕ) → Option Found
-found_at p = plain_found (plain_log2p1 (f32 p.0) ⊗ f32 p.1)
+found_at p = filtered (f32 p.0) (f32 p.1)
 
 abbrev pub filtered_pairs : List ((ℕ × ℕ) × Option Found)
 filtered_pairs =
@@ -103,7 +102,7 @@ pub record Witnesses : Type 0 where
   pub x_out : AtNone x_in_range other_xs
   pub bound_asked : list_all is_bounded bounded ≡ true
   pub bound_answers : map defined bounded ≡ map stated bounded
-  pub bound_ends : map ends bounded ≡ map closed bounded
+  pub bound_ends : map ends bounded ≡ map answer_twice bounded
   -- 1.5^2, 0 at x = -1, an overflow; and x < -1, a NaN on either side
   pub other : AnyOther (f32 0x3f000000) (f32 0x40000000) × AnyOther (f32 0xbf800000) (f32 0x3f800000)
       × AnyOther (f32 0x3f800000) (f32 0x43000000)

@@ -8,7 +8,7 @@ ghost use Rattle.answers.specs.Reached.{Reached};
 ghost use Rattle.answers.specs.Unstarred.{UnstarredPairs};
 ghost use Rattle.answers.specs.Witnesses.{Witnesses};
 
-// The three claims, for the pair of patterns nx and ny, and that t is a number, no index is cut and no
+// The claims, for the pair of patterns nx and ny, and that t is a number, no index is cut and no
 // k is. There is nothing to run: the contract is the theorem, and whoever calls this has it for their
 // pair. The two patterns are those of `f_compoundf`.
 pub fn every_answer(nx: u32, ny: u32)

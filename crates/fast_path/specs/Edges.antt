@@ -1,5 +1,5 @@
--- Document 01, "Table path", for t = l×y: "t <= -150 gives +0 and t >= 128 gives +infinity; a pattern of t, shifted left
--- once, of at most 3e6715476ba97f14 gives 1".
+-- Document 01, "Table path", of t = l×y: "t <= -150 gives +0 and t >= 128 gives +infinity; a pattern of t, shifted
+-- left once, of at most 3e6715476ba97f14 gives 1. These are route `edge`."
 use Rattle.std.specs.Prelude.{◌*◌, ◌%◌, ◌^◌, Bool, true, false, pos, nat_le, to_bits, Float}
 use Rattle.std.specs.Float.{fin, binary64}
 use Rattle.std.specs.Float.Ieee.{le}

@@ -122,7 +122,7 @@ fn pattern_test(w: u64, e: u64) -> Option<f64>
     }
 }
 
-// Near 2^t, where the rounding test passes. The range of t is asked for here, and in `Split::of` and
+// Near 2^t, where the rounding test passes. The range of t is asked for here, and in `Reduction::of` and
 // `decided` of other crates: a type for it would be made for one call of each.
 #[tactic(auto, using(crate::proofs::Index::two_to_t), unfolding(crate::specs::Fast::exp2_fast))]
 pub fn exp2_fast(t: f64) -> Option<f64>

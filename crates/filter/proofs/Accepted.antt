@@ -14,6 +14,13 @@ use Rattle.fast_path.proofs.Midpoints.{clear_of_midpoints}
 use Rattle.filter.specs.Plain.{fast_margin}
 use Rattle.filter.proofs.Power.{Unscaled}
 
+-- ---- two patterns w and w', where w' is further from every midpoint of two f32s than the two are from each other: both are rounded to one f32
+pub clear_narrowed : (margin w w' : ℕ) → 897 * 2 ^ 52 ≤ w → w < 1148 * 2 ^ 52 → w ≤ w' + margin → w' ≤ w + margin → 2 * margin < (w' + (0x10000000 + margin)) % 0x20000000
+    → narrowed (f64 w) ≡ of_bits binary32 ((w' + 0x10000000) / 0x20000000 - 0x1c0000000)
+clear_narrowed margin w w' l m g h t =
+    sym (of_bits-to_bits binary32 (narrowed (f64 w)) (narrowed_fits (f64 w)))
+    ∙ ap (of_bits binary32) (normal_magnitude w (omega arith) (omega arith) ∙ (omega arith))
+
 -- the fast path's pattern b, scaled, passes the rounding test, and its value narrows to the f32 that the plain pattern b', scaled, is nearest to
 pub record Accepted (b b' : ℕ) (k : ℤ) : Type 0 where
   pub passes : rounding_test (f64 (scaled b k)) (f64 (scaled 0x3d61d00000000000 k)) ≡ Some (f64 (scaled b k))
@@ -63,9 +70,7 @@ module _ (w w' e : ℕ) (p : Patterns w w' e) (t : 2 * fast_margin < (w' + (0x10
   passed = clear_of_midpoints w e (omega arith) (omega arith) p.beside clear
 
   narrowed_is : narrowed (f64 w) ≡ of_bits binary32 ((w' + 0x10000000) / 0x20000000 - 0x1c0000000)
-  narrowed_is =
-      sym (of_bits-to_bits binary32 (narrowed (f64 w)) (narrowed_fits (f64 w)))
-      ∙ ap (of_bits binary32) (normal_magnitude w (omega arith) (omega arith) ∙ (omega arith))
+  narrowed_is = clear_narrowed fast_margin w w' (omega arith) p.high (omega arith) (omega arith) t
 
 -- ---- the two together, for the patterns before they are scaled
 pub accepted : (b b' : ℕ) (k : ℤ) → Unscaled b → Unscaled b' → b ≤ b' + 2 ^ 20 → b' ≤ b + 2 ^ 20 → Within 124 k → 2 * fast_margin < (scaled b' k + (0x10000000 + fast_margin)) % 0x20000000 → Accepted b b' k
@@ -82,12 +87,6 @@ accepted b b' k u v g h w t = record {
         patterns b b' (lifted k) (scaled b k) (scaled b' k) (scaled 0x3d61d00000000000 k) u.low u.high g h (lifted_low k w) (lifted_high k w)
         (scaled_is b k w (large b u) u.high) (scaled_is b' k w (large b' v) v.high) (scaled_is 0x3d61d00000000000 k w (lit≤ tt) (lit< tt))
 
--- ---- the f32 pattern that is left of w, rounded to 24 digits, is that of a number
-abbrev pub left_of : ℕ → ℕ
-left_of w = (w + 0x10000000) / 0x20000000 - 0x1c0000000
-
-pub left_small : (w : ℕ) → w < 1148 * 2 ^ 52 → left_of w ≤ 0x7f800000
-left_small w h = omega arith
-
-pub left_number : (w : ℕ) → w < 1148 * 2 ^ 52 → T (not (nan_bits binary32 (left_of w)))
-left_number w h = number_of_below binary32 (left_of w) (omega (arith, left_small w h))
+-- ---- an f32 pattern up to infinity's is that of a number
+pub left_number : (n : ℕ) → n ≤ 0x7f800000 → T (not (nan_bits binary32 n))
+left_number n h = number_of_below binary32 n (omega (arith, h))

@@ -24,7 +24,7 @@ use Rattle.bounds.proofs.Scales.{S, S_pos, one_is, unit, Bound}
 use Rattle.bounds.proofs.Compared.{le_true, le_false, units_of_le, units_of_not_lt, units_in_size}
 use Rattle.bounds.proofs.Distances.{sub_apart}
 use Rattle.bounds.proofs.Nearest.{whole_bound}
-use Rattle.filter.specs.Plain.{part_of, plain_lower_edge, slow_from, slow_to, plain_upper_edge}
+use Rattle.filter.specs.Plain.{part_of, plain_lower_edge, below_normal_from, below_normal_to, plain_upper_edge}
 use Rattle.filter.specs.Right.{Inside, Fails, AtOne, AtInfinity}
 use Rattle.filter.proofs.Limits.{lower_edge_units, upper_edge_units}
 use Rattle.filter.proofs.Power.{Unscaled, part_half, fast_unscaled}
@@ -41,13 +41,13 @@ unfolding fits S
 high_end = (record { held = tt; plain = tt }, refl, lit≤ tt)
 
 -- -128 is beyond -127.5, and -149.5 before -150, by as much
-slow_to_lem : Number slow_to × (plus slow_to ≡ 0) × (1280 * (2 ^ 53 * S) ≤ less slow_to * 10)
+below_normal_to_lem : Number below_normal_to × (plus below_normal_to ≡ 0) × (1280 * (2 ^ 53 * S) ≤ less below_normal_to * 10)
 unfolding fits S
-slow_to_lem = (record { held = tt; plain = tt }, refl, lit≤ tt)
+below_normal_to_lem = (record { held = tt; plain = tt }, refl, lit≤ tt)
 
-slow_from_lem : Number slow_from × (plus slow_from ≡ 0) × (less slow_from * 10 ≤ 1495 * (2 ^ 53 * S))
+below_normal_from_lem : Number below_normal_from × (plus below_normal_from ≡ 0) × (less below_normal_from * 10 ≤ 1495 * (2 ^ 53 * S))
 unfolding fits S
-slow_from_lem = (record { held = tt; plain = tt }, refl, lit≤ tt)
+below_normal_from_lem = (record { held = tt; plain = tt }, refl, lit≤ tt)
 
 nought : Number Special.zero × (plus Special.zero ≡ 0) × (less Special.zero ≡ 0)
 unfolding fits
@@ -206,10 +206,10 @@ record Subnormal (t : Float) : Type 0 where
   most : less t * 10 ≤ 1497 * (2 ^ 53 * S)
   least : 1278 * (2 ^ 53 * S) ≤ less t * 10
 
-subnormal : {t t' : Float} → TimesBeside t t' → le t' slow_to ≡ true → le slow_from t' ≡ true → Subnormal t
+subnormal : {t t' : Float} → TimesBeside t t' → le t' below_normal_to ≡ true → le below_normal_from t' ≡ true → Subnormal t
 subnormal {t} {t'} b h g =
-    let r = go (plus t) (less t) (plus t') (less t') (plus slow_to) (less slow_to) (plus slow_from) (less slow_from) (2 ^ 53 * S) (one_side t) (one_side t') one_pos slow_to_lem.1 slow_to_lem.2 slow_from_lem.1 slow_from_lem.2
-    (units_of_le b.beside slow_to_lem.0 h) (units_of_le slow_from_lem.0 b.beside g) (over_1000 b) (under_1000 b) in
+    let r = go (plus t) (less t) (plus t') (less t') (plus below_normal_to) (less below_normal_to) (plus below_normal_from) (less below_normal_from) (2 ^ 53 * S) (one_side t) (one_side t') one_pos below_normal_to_lem.1 below_normal_to_lem.2 below_normal_from_lem.1 below_normal_from_lem.2
+    (units_of_le b.beside below_normal_to_lem.0 h) (units_of_le below_normal_from_lem.0 b.beside g) (over_1000 b) (under_1000 b) in
     record { number = b.number; negative = r.0; most = r.1; least = r.2 }
   where
     go : (p n q m c d f g s : ℕ) → (p ≡ 0) ⊎ (n ≡ 0) → (q ≡ 0) ⊎ (m ≡ 0) → 0 < s → c ≡ 0 → 1280 * s ≤ d * 10 → f ≡ 0 → g * 10 ≤ 1495 * s → q + d ≤ c + m → f + m ≤ q + g
@@ -269,5 +269,5 @@ module _ (t : Float) (s : Subnormal t) where
   fails_tests : Fails t
   fails_tests = record { inside = inside; fails = fails }
 
-pub below_normals : {t t' : Float} → TimesBeside t t' → le t' slow_to ≡ true → le slow_from t' ≡ true → Fails t
+pub below_normals : {t t' : Float} → TimesBeside t t' → le t' below_normal_to ≡ true → le below_normal_from t' ≡ true → Fails t
 below_normals {t} b g h = fails_tests t (subnormal b g h)

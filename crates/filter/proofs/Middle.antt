@@ -156,7 +156,7 @@ module _ (t : Float) (f : T (fits binary64 t)) (m : Middle t) where
   pub plain_below : clear_of_switches fast_switch_gap (part_of t) (rest_of t) ≡ true → scaled (plain_pattern t) (to_signed 63 (nearest_whole t)) < 1148 * 2 ^ 52
   plain_below e = (plain_range t start e).1
 
--- the pattern that `Split` scales
+-- the pattern that `Reduction` scales
 pub pattern_is : (t : Float) → power_at (power_index (part_of t)) (rest_of t) ≡ plain_pattern t
 unfolding plain_pattern
 pattern_is t = refl

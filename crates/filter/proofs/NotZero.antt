@@ -1,4 +1,4 @@
--- What proves `Split::of`: for a t from -150 to 128 the index of the power is inside the table, and for one that is not 0 what is left over its nearest whole number k is the same whether k
+-- What proves `Reduction::of`: for a t from -150 to 128 the index of the power is inside the table, and for one that is not 0 what is left over its nearest whole number k is the same whether k
 -- is +0 or -0 (`part_is`). And a t that has a size is not 0 (`not_zero`). Assumes nothing.
 use Rattle.std.proofs.Common.{◌≡◌, ℕ, zero, suc, ◌+◌, ◌*◌, ◌^◌, ◌<◌, ◌≤◌, Bool, true, false, ◌&&◌, ◌||◌, T, pos, sym, refl, ◌∙◌, subst, inl, inr, true≢false, lt_irrefl, zero-lt-suc, zero-mul, mul-pos, eqb, ne_eqb, lit<, arith}
 use mathlib.Core.Bool.{beq}
@@ -45,7 +45,7 @@ pub part_is : (t : Float) → eq t Special.zero ≡ false → t ⊖ (nearest_who
 unfolding part_of
 part_is t other = left_over t (nearest_whole t) (whole_fits t) (not_minus_zero t other)
 
-pub ruleset split = (whole_small, index_below, index_place, part_is, cast_defined, cast_read)
+pub ruleset reduction = (whole_small, index_below, index_place, part_is, cast_defined, cast_read)
 
 -- ---- from the size
 pub not_zero : (t : Float) → 0 < mag t → eq t Special.zero ≡ false

@@ -19,7 +19,7 @@ use Rattle.bounds.proofs.Nearest.{sign_above, sign_below}
 use Rattle.filter.specs.declared.Found.{Found}
 use Rattle.filter.specs.declared.Found.TheVariants.{Slow, Low, High, One}
 use Rattle.filter.specs.Midpoints.{narrowed_pattern}
-use Rattle.filter.specs.Plain.{plain_log2p1, part_of, rest_of, plain_pattern, fast_margin, fast_switch_gap, near_midpoint, fast_or, rounded_pattern, clear_of_switches, middle_found, plain_lower_edge, slow_from, slow_to, low_found, plain_upper_edge, high_found, tiny_found, is_tiny_t, plain_found}
+use Rattle.filter.specs.Plain.{plain_log2p1, part_of, rest_of, plain_pattern, fast_margin, fast_switch_gap, near_midpoint, fast_or, rounded_pattern, clear_of_switches, middle_found, plain_lower_edge, below_normal_from, below_normal_to, low_found, plain_upper_edge, high_found, tiny_found, is_tiny_t, plain_found}
 use Rattle.filter.specs.Right.{Inside, Passed, Right}
 use Rattle.filter.proofs.Limits.{middle_bound}
 use Rattle.filter.proofs.Power.{PowerBeside, power_beside}
@@ -113,9 +113,9 @@ module _ (t t' : Float) (b : TimesBeside t t') (m : Bound S (124 * 2 ^ 53) t') (
 -- ---- all of it
 low_right : {t t' : Float} → TimesBeside t t' → Right (low_found t') t
 unfolding low_found
-low_right {t} {t'} b = go (le t' plain_lower_edge) refl (le t' slow_to) refl (le slow_from t') refl
+low_right {t} {t'} b = go (le t' plain_lower_edge) refl (le t' below_normal_to) refl (le below_normal_from t') refl
   where
-    go : (x : Bool) → le t' plain_lower_edge ≡ x → (y : Bool) → le t' slow_to ≡ y → (z : Bool) → le slow_from t' ≡ z → Right (cond x (Some Low) (cond (y && z) (Some Slow) None)) t
+    go : (x : Bool) → le t' plain_lower_edge ≡ x → (y : Bool) → le t' below_normal_to ≡ y → (z : Bool) → le below_normal_from t' ≡ z → Right (cond x (Some Low) (cond (y && z) (Some Slow) None)) t
     go true e y f z g = lower_edge_lem b e
     go false e true f true g = below_normals b f g
     go false e true f false g = tt

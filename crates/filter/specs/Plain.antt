@@ -101,14 +101,14 @@ middle_found t =
 abbrev pub plain_lower_edge : Float
 plain_lower_edge = fin true 151 (pos 0)
 
-abbrev pub slow_from : Float
-slow_from = fin true 299 (negsuc 0)
+abbrev pub below_normal_from : Float
+below_normal_from = fin true 299 (negsuc 0)
 
-abbrev pub slow_to : Float
-slow_to = fin true 1 (pos 7)
+abbrev pub below_normal_to : Float
+below_normal_to = fin true 1 (pos 7)
 
 abbrev pub is_below_normal : Float → Bool
-is_below_normal t = le t slow_to && le slow_from t
+is_below_normal t = le t below_normal_to && le below_normal_from t
 
 unfoldable pub low_found : Float → Option Found
 low_found t = cond (le t plain_lower_edge) (Some Low) (cond (is_below_normal t) (Some Slow) None)
@@ -121,24 +121,33 @@ unfoldable pub high_found : Float → Option Found
 high_found t = cond (le plain_upper_edge t) (Some High) None
 
 -- whether |t| is below 2^-300
+abbrev pub tiny_t_end : Float
+tiny_t_end = f64 0x2d30000000000000
+
 unfoldable pub is_tiny_t : Float → Bool
-is_tiny_t t = lt (neg (f64 0x2d30000000000000)) t && lt t (f64 0x2d30000000000000)
+is_tiny_t t = lt (neg tiny_t_end) t && lt t tiny_t_end
 
 -- such a t: at 0 it is at the edge of 1
 unfoldable pub tiny_found : Float → Option Found
 tiny_found t = cond (eq t zero) (Some One) None
 
 -- t is from -124 to 124, and not tiny
+abbrev pub middle_from : Float
+middle_from = fin true 31 (pos 2)
+
+abbrev pub middle_to : Float
+middle_to = fin false 31 (pos 2)
+
 pub record Middle (t : Float) : Type 0 where
-  pub least : T (le (fin true 31 (pos 2)) t)
-  pub most : T (le t (fin false 31 (pos 2)))
+  pub least : T (le middle_from t)
+  pub most : T (le t middle_to)
   pub apart : is_tiny_t t ≡ false
 
 -- all of them
 unfoldable pub plain_found : Float → Option Found
 plain_found t =
-    cond (lt t (fin true 31 (pos 2))) (low_found t)
-    (cond (lt (fin false 31 (pos 2)) t) (high_found t) (cond (is_tiny_t t) (tiny_found t) (middle_found t)))
+    cond (lt t middle_from) (low_found t)
+    (cond (lt middle_to t) (high_found t) (cond (is_tiny_t t) (tiny_found t) (middle_found t)))
 
 -- what is found of x and y: from the plain t
 abbrev pub filtered : Float → Float → Option Found

@@ -16,14 +16,14 @@ ghost use Rattle.filter.specs.Right.{Right};
 
 use crate::midpoints::{clear_of_midpoints, narrowed_pattern};
 use crate::plain::Plain;
-use crate::split::{Split, clear_of_index};
+use crate::reduction::{Reduction, clear_of_index};
 use fast_path::evaluation::{log2p1, power};
 use floats::common::is_within;
 use special::operands::Operands;
 
 pub mod midpoints;
 pub mod plain;
-pub mod split;
+pub mod reduction;
 
 // A pattern that is further than this from every midpoint of two f32s settles the answer.
 const FAST_MARGIN: u64 = 0x10_8000;
@@ -39,8 +39,8 @@ const FAST_NEXT_TO: f64 = f64::from_bits(0x3f10_0000_0000_0000);
 // of it.
 const FAST_SWITCH_GAP: f64 = f64::from_bits(0x3e10_0000_0000_0000);
 
-// 2^-300
-const TINY: f64 = f64::from_bits(0x2d30_0000_0000_0000);
+// A t below 2^-300 in size is tiny.
+const TINY_T_END: f64 = f64::from_bits(0x2d30_0000_0000_0000);
 
 // From and to these, the power is near that of t.
 const MIDDLE_FROM: f64 = -124.0;
@@ -51,9 +51,9 @@ const MIDDLE_TO: f64 = 124.0;
 const PLAIN_LOWER_EDGE: f64 = -151.0;
 
 // From and to these, the value is below the normal f32s.
-const SLOW_FROM: f64 = -149.5;
+const BELOW_NORMAL_FROM: f64 = -149.5;
 
-const SLOW_TO: f64 = -128.0;
+const BELOW_NORMAL_TO: f64 = -128.0;
 
 // At least this, it says that t is at the upper edge.
 const PLAIN_UPPER_EDGE: f64 = 129.0;
@@ -102,7 +102,7 @@ fn in_two_steps(t: f64) -> Option<Found>
     requires { spec.Middle t }
     ensures { result ≡ spec.middle_found t }
 {
-    rounded_pattern(t, Split::of(t).pattern(FAST_SWITCH_GAP)?)
+    rounded_pattern(t, Reduction::of(t).pattern(FAST_SWITCH_GAP)?)
 }
 
 // The same in one step, where the nearest 32nd is not halfway between two whole numbers and no switch of
@@ -132,7 +132,7 @@ fn middle_found(t: f64) -> Option<Found>
 pub fn is_below_normal(t: f64) -> bool
     ensures { result ≡ spec.is_below_normal t }
 {
-    (t <= SLOW_TO) & (t >= SLOW_FROM)
+    (t <= BELOW_NORMAL_TO) & (t >= BELOW_NORMAL_FROM)
 }
 
 // For t below -124.
@@ -168,7 +168,7 @@ fn tiny_found(t: f64) -> Option<Found>
 fn is_tiny_t(t: f64) -> bool
     ensures { result ≡ spec.is_tiny_t t }
 {
-    (t > -TINY) & (t < TINY)
+    (t > -TINY_T_END) & (t < TINY_T_END)
 }
 
 // For the t of the plain logarithm.

@@ -1,6 +1,6 @@
 -- Document 01, "Widening, narrowing, nearest whole". Each is fixed by its value for every pattern. Widening needs no
 -- definition: an f32 and the f64 of the same value are the same `Float`.
-use Rattle.std.specs.Prelude.{◌≡◌, ℕ, ◌-◌, ◌*◌, ◌^◌, ◌<◌, ◌≤◌, false, T, to_bits, Float}
+use Rattle.std.specs.Prelude.{◌≡◌, ℕ, ◌-◌, ◌*◌, ◌^◌, ◌<◌, ◌≤◌, false, T, from_bits, to_bits, Float}
 use Rattle.std.specs.Float.{nan, inf, fin, binary32, binary64}
 use Rattle.std.specs.Float.Ieee.{up, down, round}
 use Rattle.std.specs.Float.Ieee.Nearest.{closest}
@@ -28,9 +28,20 @@ nearest_f32 a c = round binary32 false a c
 abbrev pub infinite_from : ℕ
 infinite_from = 2 ^ 128 - 2 ^ 103
 
+-- a / c is at that end or above it, or below it
+abbrev pub FromEnd : ℕ → ℕ → Type 0
+FromEnd a c = (0 < c) × (infinite_from * c ≤ a)
+
+abbrev pub BelowEnd : ℕ → ℕ → Type 0
+BelowEnd a c = (0 < c) × (a < infinite_from * c)
+
+-- Neither is empty: the end itself is one, and half of 1 below it the other, whose nearest f32 is the largest.
 pub record NearestF32Ends : Type 0 where
-  pub infinite : (a c : ℕ) → 0 < c → infinite_from * c ≤ a → nearest_f32 a c ≡ inf false
-  pub finite_below : (a c : ℕ) → 0 < c → a < infinite_from * c → T (finite (nearest_f32 a c))
+  pub infinite : (a c : ℕ) → FromEnd a c → nearest_f32 a c ≡ inf false
+  pub finite_below : (a c : ℕ) → BelowEnd a c → T (finite (nearest_f32 a c))
+  pub at_end : FromEnd infinite_from 1
+  pub next_to_end : BelowEnd (2 * infinite_from - 1) 2
+  pub largest : nearest_f32 (2 * infinite_from - 1) 2 ≡ from_bits binary32 0x7f7fffff
 
 -- "`round_ties_even` gives the nearest whole f64, ties to even, and keeps the sign of zero": the whole number nearest
 -- to the exact value, with the value's sign. An f64 holds that number (`nearest_whole_exact` in

@@ -19,7 +19,7 @@ use Rattle.bounds.proofs.Apart.{apart_same, product_apart_k, product_apart}
 use Rattle.filter.specs.Plain.{plain_log2p1}
 use Rattle.filter.proofs.Logarithm.{LogBeside, log_beside}
 use Rattle.filter.proofs.Times.{Single}
-use Rattle.slow_filter.specs.Plain.{kept_from}
+use Rattle.slow_filter.specs.PlainSlow.{kept_from}
 use Rattle.slow_filter.proofs.Logarithms.{Beside, logarithms, on_one_scale}
 use Rattle.slow_filter.proofs.Regrouped.{turned_sides}
 use Rattle.slow_filter.proofs.LogOwn.{LogOwn, own_bound}

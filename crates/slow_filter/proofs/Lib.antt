@@ -20,5 +20,5 @@ pub mod NearOnePower
 pub mod NearOne
 pub mod Reach
 pub mod Plain
-pub mod Split
+pub mod SubnormalPower
 pub mod Settled

@@ -25,7 +25,7 @@ use Rattle.bounds.proofs.Compared.{Positive, positive_bound}
 use Rattle.bounds.proofs.Exactly.{Off}
 use Rattle.bounds.proofs.OwnScale.{Nil, nil_bound, nil_sum, nil_product, Own, on_own}
 use Rattle.bounds.proofs.Apart.{apart_same, apart_turned, sum_apart, product_apart}
-use Rattle.slow_filter.specs.Plain.{kept_from}
+use Rattle.slow_filter.specs.PlainSlow.{kept_from}
 use Rattle.slow_filter.proofs.Regrouped.{sums_apart}
 use Rattle.slow_filter.proofs.SlowFactor.{slow_factor, slow_is, slow_size, slow_beside, mul_turned}
 use Rattle.slow_filter.proofs.LowPart.{least_size, parted, Exact, Far, low_cases}

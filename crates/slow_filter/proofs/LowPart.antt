@@ -23,7 +23,7 @@ use Rattle.bounds.proofs.Scales.{S, S_pos, one_is}
 use Rattle.bounds.proofs.Compared.{Positive, positive_bound, le_units, le_of_units, le_true, gt_of_not_le}
 use Rattle.bounds.proofs.Exactly.{ExactSum, exact_sum, fast_exact}
 use Rattle.bounds.proofs.OwnScale.{Nil}
-use Rattle.slow_filter.specs.Plain.{kept_from}
+use Rattle.slow_filter.specs.PlainSlow.{kept_from}
 
 -- ---- 1 and x are whole numbers of one power of two, and few of them
 record Grid (x : Float) : Type 0 where

@@ -1,12 +1,10 @@
 -- Next to 1 the slow path's answer is what the short polynomial rounds to, where that is clear of every midpoint of two f32s (`near_one`): the two patterns are 6 from each other at most, and a
 -- pattern that is taken is more than 8 from every midpoint. Where t is so small that the slow path does not work the power out, both are 1. Assumes nothing.
-use Rattle.std.proofs.Common.{◌≡◌, ℕ, ◌+◌, ◌-◌, ◌*◌, ◌/◌, ◌%◌, ◌^◌, ◌<◌, ◌≤◌, Some, refl, sym, ap, ◌∙◌, Bool, true, false, min, arith, ltb-true}
+use Rattle.std.proofs.Common.{◌≡◌, ℕ, ◌+◌, ◌-◌, ◌*◌, ◌/◌, ◌%◌, ◌^◌, ◌<◌, ◌≤◌, Some, refl, sym, ap, ◌∙◌, Bool, true, false, arith, ltb-true}
 use lib.Ieee.{Float, binary32, binary64, le, to_bits, of_bits}
-use lib.Ieee.Bits.{of_bits-to_bits}
 use Rattle.floats.specs.Operations.{◌⊕◌, ◌⊗◌, f64}
 use Rattle.floats.specs.Narrowing.{narrowed}
 use Rattle.floats.specs.OnBits.{absolute}
-use Rattle.floats.proofs.Laws.Narrow.{normal_magnitude, narrowed_fits}
 use Rattle.double_double.specs.declared.DoubleDouble.{DoubleDouble}
 use Rattle.special.specs.Special.{one}
 use Rattle.slow_path.specs.Slow.{exp2_accurate}
@@ -15,33 +13,19 @@ use Rattle.bounds.proofs.Scales.{S, Bound}
 use Rattle.bounds.proofs.Distances.{Apart, bound_near}
 use Rattle.bounds.proofs.Apart.{apart_turned}
 use Rattle.filter.proofs.Power.{Unscaled}
+use Rattle.filter.proofs.Accepted.{clear_narrowed}
 use Rattle.std.proofs.lemmas.Option.{cond_some}
 use Rattle.filter.specs.Midpoints.{clear_of_midpoints, narrowed_pattern}
 use Rattle.slow_filter.specs.NearOne.{near_one_power, near_one_margin, near_one_found}
 use Rattle.slow_filter.proofs.NearOneTiny.{FromOne, tiny_bound, tiny_is_one, tiny_near}
 use Rattle.slow_filter.proofs.NearOnePower.{near_one_power_lem, tiny_power}
 
--- ---- two patterns from 1/2 to 2 with no midpoint between them
-narrowed_is : (w w' : ℕ) → Unscaled w → w ≤ w' + 6 → w' ≤ w + 6 → 2 * near_one_margin < (w' + (0x10000000 + near_one_margin)) % 0x20000000 → narrowed (f64 w) ≡ of_bits binary32 ((w' + 0x10000000) / 0x20000000 - 0x1c0000000)
-narrowed_is w w' u g h t =
-    sym (of_bits-to_bits binary32 (narrowed (f64 w)) (narrowed_fits (f64 w))) ∙ ap (of_bits binary32) (normal_magnitude w (most w u.high) (least w u.low) ∙ rounds w w' u.low u.high g h t)
-  where
-    least : (w : ℕ) → 1022 * 2 ^ 52 ≤ w → 897 * 2 ^ 52 ≤ w
-    least w h = omega arith
-
-    most : (w : ℕ) → w < 1024 * 2 ^ 52 → w ≤ 0x7ff0000000000000
-    most w h = omega arith
-
-    rounds : (w w' : ℕ) → 1022 * 2 ^ 52 ≤ w → w < 1024 * 2 ^ 52 → w ≤ w' + 6 → w' ≤ w + 6 → 2 * near_one_margin < (w' + (0x10000000 + near_one_margin)) % 0x20000000
-        → min ((w + 268435455 + w / 536870912 % 2) / 536870912 - 7516192768) 0x7f800000 ≡ (w' + 0x10000000) / 0x20000000 - 0x1c0000000
-    rounds w w' l m g h t = omega arith
-
 -- ---- the answer that is found is what the other pattern narrows to
 narrows : (w w' : ℕ) (v : Float) → Unscaled w → w ≤ w' + 6 → w' ≤ w + 6 → narrowed_pattern near_one_margin w' ≡ Some v → narrowed (f64 w) ≡ v
 unfolding narrowed_pattern
 narrows w w' v u g h found =
     let o = cond_some (clear_of_midpoints near_one_margin w') _ v found in
-    narrowed_is w w' u g h (ltb-true _ _ o.0) ∙ o.1
+    clear_narrowed near_one_margin w w' (omega (arith, u.low)) (omega (arith, u.high)) (omega arith) (omega arith) (ltb-true _ _ o.0) ∙ o.1
 
 -- the same where both are 1
 narrows_one : (x : Float) (w' : ℕ) (v : Float) → narrowed x ≡ of_bits binary32 0x3f800000 → FromOne (2 ^ 28 + 8) w' → narrowed_pattern near_one_margin w' ≡ Some v → narrowed x ≡ v

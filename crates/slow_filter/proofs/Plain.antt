@@ -12,7 +12,7 @@ use Rattle.bounds.proofs.Nearest.{sign_below}
 use Rattle.bounds.proofs.Compared.{Positive, positive_at, positive_add}
 use Rattle.filter.specs.Plain.{part_of, rest_of, plain_pattern, clear_of_switches}
 use Rattle.filter.proofs.Power.{Unscaled}
-use Rattle.slow_filter.specs.Plain.{slow_switch_gap}
+use Rattle.slow_filter.specs.PlainSlow.{slow_switch_gap}
 use Rattle.slow_filter.specs.NearOne.{near_one_power}
 use Rattle.slow_filter.proofs.Power.{power_of}
 use Rattle.slow_filter.proofs.Reach.{reach_bound, reach_negative, reach_whole, wide_bounds}

@@ -12,11 +12,11 @@ use Rattle.bounds.proofs.Scales.{S, S_pos, one_is, unit, Bound, tested}
 use Rattle.bounds.proofs.Distances.{Apart, sub_apart}
 use Rattle.bounds.proofs.Nearest.{whole_bound}
 use Rattle.bounds.proofs.Compared.{units_of_le, lt_true}
-use Rattle.filter.specs.Plain.{part_of, rest_of, part_end, rest_end, clear_of_switches, slow_from, slow_to}
+use Rattle.filter.specs.Plain.{part_of, rest_of, part_end, rest_end, clear_of_switches, below_normal_from, below_normal_to}
 use Rattle.filter.proofs.Power.{part_half}
 use Rattle.filter.proofs.Middle.{four, of_tests}
 use Rattle.filter.proofs.Limits.{between_bound, end_bound, lower_edge_units, upper_edge_units, InsideEdges}
-use Rattle.slow_filter.specs.Plain.{slow_switch_gap, in_reach, slow_next_from, slow_next_to, next_to_one}
+use Rattle.slow_filter.specs.PlainSlow.{slow_switch_gap, in_reach, slow_next_from, slow_next_to, next_to_one}
 use Rattle.fast_path.specs.Edges.{lower_edge, upper_edge}
 use Rattle.slow_filter.proofs.BelowNormal.{BelowNormal, below_normal}
 
@@ -26,12 +26,12 @@ three a b c e = grind arith
 
 pub record Reached (y t : Float) : Type 0 where
   pub not_one : ne y one ≡ true
-  pub high : le t slow_to ≡ true
-  pub low : le slow_from t ≡ true
+  pub high : le t below_normal_to ≡ true
+  pub low : le below_normal_from t ≡ true
 
 pub in_parts : (y t : Float) → in_reach y t ≡ true → Reached y t
 in_parts y t e =
-    let o = three (ne y one) (le t slow_to) (le slow_from t) e in
+    let o = three (ne y one) (le t below_normal_to) (le below_normal_from t) e in
     record { not_one = o.0; high = o.1; low = o.2 }
 
 pub record Next (y t : Float) : Type 0 where
@@ -66,34 +66,34 @@ pub next_least : (t : Float) → Number t → le slow_next_from (absolute t) ≡
 next_least t n e = le_trans sizes.4 (size_least slow_next_from t sizes.3 sizes.5 n e)
 
 -- ---- t between -149.5 and -128
-module _ (t : Float) (f : T (fits binary64 t)) (high : le t slow_to ≡ true) (low : le slow_from t ≡ true) where
+module _ (t : Float) (f : T (fits binary64 t)) (high : le t below_normal_to ≡ true) (low : le below_normal_from t ≡ true) where
   number : Number t
-  number = of_tests t slow_from slow_to f tt tt low high
+  number = of_tests t below_normal_from below_normal_to f tt tt low high
 
   pub reach_bound : Bound S (150 * 2 ^ 53) t
   reach_bound = between_bound (150 * 2 ^ 53) least most number low high
     where
-      least : Bound S (150 * 2 ^ 53) slow_from
-      least = unfold fits in tested (150 * 2 ^ 53) slow_from tt
+      least : Bound S (150 * 2 ^ 53) below_normal_from
+      least = unfold fits in tested (150 * 2 ^ 53) below_normal_from tt
 
-      most : Bound S (150 * 2 ^ 53) slow_to
-      most = unfold fits in tested (150 * 2 ^ 53) slow_to tt
+      most : Bound S (150 * 2 ^ 53) below_normal_to
+      most = unfold fits in tested (150 * 2 ^ 53) below_normal_to tt
 
-  ends : Number slow_to × Number slow_from × (plus slow_to ≡ 0) × (less slow_to ≡ 128 * 2 ^ 53 * S) × (plus slow_from ≡ 0) × (less slow_from ≡ 299 * 2 ^ 52 * S)
+  ends : Number below_normal_to × Number below_normal_from × (plus below_normal_to ≡ 0) × (less below_normal_to ≡ 128 * 2 ^ 53 * S) × (plus below_normal_from ≡ 0) × (less below_normal_from ≡ 299 * 2 ^ 52 * S)
   unfolding fits S
   ends = (record { held = tt; plain = tt }, record { held = tt; plain = tt }, refl, refl, refl, refl)
 
   -- 128 at least below 0
   pub reach_below : 128 * 2 ^ 53 * S ≤ less t
-  reach_below = go (plus t) (less t) (plus slow_to) (less slow_to) (128 * 2 ^ 53 * S) ends.2 ends.3 (units_of_le number ends.0 high)
+  reach_below = go (plus t) (less t) (plus below_normal_to) (less below_normal_to) (128 * 2 ^ 53 * S) ends.2 ends.3 (units_of_le number ends.0 high)
     where
       go : (p n q m k : ℕ) → q ≡ 0 → m ≡ k → p + m ≤ q + n → k ≤ n
       go p n q m k e f h = omega arith
 
   pub reach_edges : InsideEdges t
   reach_edges = record {
-    above = lt_true lower_edge_units.0 number (low_end (plus t) (less t) (plus lower_edge) (less lower_edge) (plus slow_from) (less slow_from) S lower_edge_units.1 lower_edge_units.2 ends.4 ends.5 S_pos (units_of_le ends.1 number low));
-    below = lt_true number upper_edge_units.0 (high_end (plus t) (less t) (plus upper_edge) (less upper_edge) (plus slow_to) (less slow_to) S upper_edge_units.1 upper_edge_units.2 ends.2 S_pos (units_of_le number ends.0 high));
+    above = lt_true lower_edge_units.0 number (low_end (plus t) (less t) (plus lower_edge) (less lower_edge) (plus below_normal_from) (less below_normal_from) S lower_edge_units.1 lower_edge_units.2 ends.4 ends.5 S_pos (units_of_le ends.1 number low));
+    below = lt_true number upper_edge_units.0 (high_end (plus t) (less t) (plus upper_edge) (less upper_edge) (plus below_normal_to) (less below_normal_to) S upper_edge_units.1 upper_edge_units.2 ends.2 S_pos (units_of_le number ends.0 high));
   }
     where
       low_end : (p n c d q m s : ℕ) → c ≡ 0 → d ≡ 150 * 2 ^ 53 * s → q ≡ 0 → m ≡ 299 * 2 ^ 52 * s → 0 < s → q + n ≤ p + m → c + n < p + d

@@ -22,7 +22,7 @@ use Rattle.filter.proofs.Times.{single}
 use Rattle.fast_path.specs.Scaling.{scaled}
 use Rattle.slow_filter.specs.Subnormal.{rounded_subnormal}
 use Rattle.slow_filter.specs.NearOne.{near_one_found}
-use Rattle.slow_filter.specs.Plain.{slow_switch_gap, subnormal_power, kept_from, plain_log, in_reach, next_to_one, plain_slow}
+use Rattle.slow_filter.specs.PlainSlow.{slow_switch_gap, subnormal_power, kept_from, plain_log, in_reach, next_to_one, plain_slow}
 use Rattle.slow_filter.proofs.LogOwn.{LogOwn}
 use Rattle.slow_filter.proofs.Accurate.{kept_own, times_beside, times_fine}
 use Rattle.slow_filter.proofs.Tiny.{tiny_own}

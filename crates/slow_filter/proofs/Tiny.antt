@@ -37,7 +37,7 @@ use Rattle.bounds.proofs.Apart.{apart_same, apart_turned, product_apart}
 use Rattle.filter.specs.Plain.{plain_factor}
 use Rattle.filter.proofs.Factor.{plain_factor_lem, factor_beside}
 use Rattle.filter.proofs.Times.{single}
-use Rattle.slow_filter.specs.Plain.{kept_from}
+use Rattle.slow_filter.specs.PlainSlow.{kept_from}
 use Rattle.slow_filter.proofs.SlowFactor.{slow_is, slow_size, slow_beside, mul_turned}
 use Rattle.slow_filter.proofs.LogOwn.{LogOwn, own_bound}
 use Rattle.slow_filter.proofs.LowPart.{tiny}

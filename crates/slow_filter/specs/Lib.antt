@@ -1,4 +1,4 @@
 -- The definitions that the contracts of `slow_filter` cite.
 pub mod Subnormal
 pub mod NearOne
-pub mod Plain
+pub mod PlainSlow

@@ -10,16 +10,16 @@ ghost use Rattle.std.specs.Float.Ieee.Scale.{finite};
 ghost use Rattle.floats.specs.OnBits.{absolute};
 ghost use Rattle.special.specs.Special.{minus_one};
 ghost use Rattle.slow_path.specs.Slow.{compoundf_accurate};
-ghost use Rattle.filter.specs.Plain.{slow_from, slow_to};
+ghost use Rattle.filter.specs.Plain.{below_normal_from, below_normal_to};
 ghost use Rattle.slow_filter.specs.Subnormal as spec;
 ghost use Rattle.slow_filter.specs.NearOne as near;
-ghost use Rattle.slow_filter.specs.Plain as plain;
+ghost use Rattle.slow_filter.specs.PlainSlow as plain;
 
 use fast_path::evaluation::{factor, log2p1};
 use filter::is_below_normal;
 use filter::midpoints::narrowed_pattern;
 use filter::plain::Plain;
-use filter::split::Split;
+use filter::reduction::Reduction;
 use floats::narrowing::{OFFSET_BITS, subnormal_sum};
 use slow_path::compoundf_accurate;
 use special::operands::{Base, Operands};
@@ -58,13 +58,13 @@ fn rounded_subnormal(w: u64) -> Option<f32>
 }
 
 // For t from -149.5 to -128.
-#[tactic(auto, using(crate::proofs::Split::split), unfolding(crate::specs::Plain::subnormal_power))]
+#[tactic(auto, using(crate::proofs::SubnormalPower::steps), unfolding(crate::specs::PlainSlow::subnormal_power))]
 fn subnormal_power(t: f64) -> Option<f32>
-    requires t_most { T (le t slow_to) }
-    requires t_least { T (le slow_from t) }
+    requires t_most { T (le t below_normal_to) }
+    requires t_least { T (le below_normal_from t) }
     ensures { result ≡ plain.subnormal_power t }
 {
-    rounded_subnormal(Split::of(t).pattern(SLOW_SWITCH_GAP)?)
+    rounded_subnormal(Reduction::of(t).pattern(SLOW_SWITCH_GAP)?)
 }
 
 // Near 2^z for |z| <= 2^-16.
@@ -115,7 +115,7 @@ fn next_to_one(y: f64, t: f64) -> bool
 }
 
 // What the plain evaluation finds of x and y.
-#[tactic(auto, unfolding(crate::specs::Plain::plain_slow, crate::specs::Plain::next_to_one))]
+#[tactic(auto, unfolding(crate::specs::PlainSlow::plain_slow, crate::specs::PlainSlow::next_to_one))]
 fn plain_slow(pair: Operands) -> Option<f32>
     ensures { result ≡ plain.plain_slow pair.x pair.y }
 {

@@ -80,7 +80,8 @@ exp2t_rule = by_test 33 (entry compoundf_exp2_t) _ _ _ tt
 
 -- ---- both
 pub rules : Rules
-rules = record { scale = scale_rule; exp2_t = exp2t_rule }
+unfolding log2p1_scale compoundf_exp2_t
+rules = record { scale = scale_rule; scale_length = refl; exp2_t = exp2t_rule; exp2_t_length = refl }
 
 -- ---- all tables
 -- no pattern is a NaN's, so that each is read as it stands

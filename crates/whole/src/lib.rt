@@ -40,7 +40,7 @@ fn turn_factor(s: f64, n: u32) -> f64
 // s to the n-th power, for n up to 16: s is squared along the bits of n. The source goes on while a
 // bit is left; here the turns are counted, and those past the last bit multiply by 1. With a branch on
 // the bits whole exponents take 35 % longer, and more than their bar of nine tenths of the Rust's time.
-fn squarings(s: f64, n: u32) -> f64
+fn whole_power(s: f64, n: u32) -> f64
     requires { T (not (is_nan s)) }
     ensures { result ≡ spec.whole_power s n }
 {
@@ -64,7 +64,7 @@ pub fn whole(x: f32, y: f32) -> f32
     let tiny = (f32::to_bits(x) % 0x8000_0000 <= 0x3100_0000) as u32;
     let ny = f32::to_bits(y);
     let n = y.abs() as u32;
-    let acc = squarings(x as f64 + 1.0, n * (1 - tiny));
+    let acc = whole_power(x as f64 + 1.0, n * (1 - tiny));
     // acc / 1, or 1 / acc where y is below 0
     let below = ny / 0x8000_0000;
     narrow_number(turn_factor(acc, 1 - below) / turn_factor(acc, below))

@@ -27,22 +27,22 @@ NanOrPlain true r = r ≡ nan
 NanOrPlain false r = Plain r
 
 -- so the test tells whether the answer is a NaN
-pub told_nan : (b : Bool) (r : Float) → NanOrPlain b r → is_nan r ≡ b
+pub nan_by_test : (b : Bool) (r : Float) → NanOrPlain b r → is_nan r ≡ b
 unfolding is_nan
-told_nan true r e = ap is_nan e
-told_nan false nan p = absurd p.is_clear
-told_nan false (inf s) p = refl
-told_nan false (fin s m e) p = refl
+nan_by_test true r e = ap is_nan e
+nan_by_test false nan p = absurd p.is_clear
+nan_by_test false (inf s) p = refl
+nan_by_test false (fin s m e) p = refl
 
 -- and any other answer has 0 for its highest bit
-pub told_sign : (b : Bool) (r : Float) → NanOrPlain b r → T (not (is_nan r)) → to_bits binary32 r < 2 ^ 31
+pub clear_sign : (b : Bool) (r : Float) → NanOrPlain b r → T (not (is_nan r)) → to_bits binary32 r < 2 ^ 31
 unfolding is_nan to_bits
-told_sign true r e n = absurd (subst (λ (x : Float). T (not (is_nan x))) e n)
-told_sign false nan p n = absurd n
-told_sign false (inf true) p n = absurd p.is_clear
-told_sign false (inf false) p n = inf_under_top binary32
-told_sign false (fin true m e) p n = absurd p.is_clear
-told_sign false (fin false m e) p n = bits_under_top binary32 m e p.in_f32
+clear_sign true r e n = absurd (subst (λ (x : Float). T (not (is_nan x))) e n)
+clear_sign false nan p n = absurd n
+clear_sign false (inf true) p n = absurd p.is_clear
+clear_sign false (inf false) p n = inf_under_top binary32
+clear_sign false (fin true m e) p n = absurd p.is_clear
+clear_sign false (fin false m e) p n = bits_under_top binary32 m e p.in_f32
 
 -- the three constants that are answers
 pub plain_zero : Plain zero

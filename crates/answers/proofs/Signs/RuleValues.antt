@@ -1,5 +1,5 @@
 -- The answers of the route `rule`: by the first two rows of the special table a NaN, exactly where x or y is NaN or x is below -1; by any other row one
--- of 1, +0 and +infinity (`rule_told`). Assumes nothing.
+-- of 1, +0 and +infinity (`rule_nan_or_plain`). Assumes nothing.
 use mathlib.Core.Path.{◌≡◌, refl, sym, ◌∙◌}
 use mathlib.Core.Bool.{Bool, true, false, ◌||◌, true≢false}
 use mathlib.Core.List.{List, [], ◌∷◌}
@@ -26,9 +26,9 @@ after_nans true b rows p e = refl
 after_nans false true rows p e = refl
 after_nans false false rows p e = first_plain rows p e
 
-pub rule_told : (x y : Float) → is_rule x y ≡ true → NanOrPlain (is_nan x || is_nan y || lt x minus_one) (special x y)
+pub rule_nan_or_plain : (x y : Float) → is_rule x y ≡ true → NanOrPlain (is_nan x || is_nan y || lt x minus_one) (special x y)
 unfolding special special_table
-rule_told x y e =
+rule_nan_or_plain x y e =
     after_nans (is_nan x || is_nan y) (lt x minus_one) _
     (plain_one, (plain_one, (plain_zero, (plain_infinity, (plain_infinity, (plain_zero, (plain_infinity, (plain_zero, (plain_zero, (plain_infinity, tt))))))))))
     (sym (a_row_fits x y) ∙ e)

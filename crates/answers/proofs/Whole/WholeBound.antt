@@ -18,7 +18,7 @@ use Rattle.whole.specs.Whole.{is_whole, is_tiny}
 use Rattle.whole.proofs.Tiny.{tiny_is_one}
 use Rattle.answers.specs.Exact as Exact
 use Rattle.answers.specs.Exact.{Fraction, exact_base, exact}
-use Rattle.answers.specs.Claims.{Near, answer, WholeBound}
+use Rattle.answers.specs.Claims.{Near, answer, WholeBound, ExactNumber}
 use Rattle.answers.proofs.Whole.Factors.{WithinFactors, turned, looser, powers}
 use Rattle.answers.proofs.Whole.Within.{Within, within_more, Reciprocal, normal, small, reciprocal}
 use Rattle.answers.proofs.Whole.Squared.{Base, room, power_within}
@@ -127,3 +127,18 @@ whole_bound x y f g h k =
       lower_one = lit≤ tt;
       upper_one = lit≤ tt;
     })
+
+-- ---- E is a number
+number : (x y : Float) → T (fits binary32 x) → AskedX x → AskedY y → 0 < (exact x y).bottom
+unfolding exact Exact.raised Exact.raised_inverse lt le absolute
+number nan y f a b = absurd a.above
+number (inf true) y f a b = absurd a.above
+number (inf false) y f a b = absurd a.under
+number (fin s m e) nan f a b = absurd b.from_1
+number (fin s m e) (inf t) f a b = absurd b.to_16
+number (fin s m e) (fin false n d) f a b = (room (base s m e f a.above a.under) (size n d) (size_to_16 false n d b.to_16)).bottom
+number (fin s m e) (fin true n d) f a b = (room (base s m e f a.above a.under) (size n d) (size_to_16 true n d b.to_16)).top
+
+pub exact_number : (x y : Float) → T (fits binary32 x) → ExactNumber x y
+unfolding ExactNumber
+exact_number x y f h k = number x y f (asked_x x k) (asked_y y h)

@@ -1,8 +1,9 @@
 -- Where rounding overflows: from halfway between the largest value and the next power of two up, 2 ^ (emax + 1) - 2 ^ (emax - prec), the result is an
 -- infinity (`round_overflows`), and below it is finite (`round_stays`). In binary32 that is 2 ^ 128 - 2 ^ 103. Assumes nothing.
 use Rattle.std.proofs.Common.{◌≡◌, ℕ, suc, ◌+◌, ◌-◌, ◌*◌, ◌/◌, ◌^◌, ◌<◌, ◌≤◌, Bool, true, false, T, ◌⊎◌, sym, refl, ap, ◌∙◌, subst, inl, inr, le_trans, le_of_eq, lt_of_lt_of_le, lt_of_le_of_lt, mul-le-mul_right, div-lt_iff_lt-mul, eq-or-lt_of_le, mul-lt-mul_of_pos_right, lt_of_not-le, mul-one, mul_right_comm, arith, lit≤, pow_pos, pow-add}
+use lib.Dec.{lit<}
 use lib.Pow.{pow-lt}
-use lib.Ieee.{Float, nan, inf, fin, Format, binary32, binary64, prec, emax, low, size, round, neg, le}
+use lib.Ieee.{Float, nan, inf, fin, Format, binary32, binary64, prec, emax, low, size, round, neg, le, of_bits}
 use lib.Ieee.Digits.{size-le}
 use lib.Ieee.Nearest.{closest}
 use lib.Ieee.Order.{drop, round_mono}
@@ -109,4 +110,11 @@ nearest_f32_finite a c C h =
     finite_of_value (round binary32 false a c) false (grid binary32 a c) (2 ^ 149) (round_value binary32 false a c (round_stays binary32 a c C h))
 
 pub nearest_f32_ends : NearestF32Ends
-nearest_f32_ends = record { infinite = nearest_f32_infinite; finite_below = nearest_f32_finite }
+unfolding nearest_f32 round of_bits
+nearest_f32_ends = record {
+  infinite = λ a c h. nearest_f32_infinite a c h.0 h.1;
+  finite_below = λ a c h. nearest_f32_finite a c h.0 h.1;
+  at_end = (lit< tt, lit≤ tt);
+  next_to_end = (lit< tt, lit< tt);
+  largest = refl;
+}

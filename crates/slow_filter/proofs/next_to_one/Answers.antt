@@ -3,7 +3,7 @@ use Rattle.std.proofs.Common.{arith}
 use Rattle.std.proofs.lemmas.Grind.{common_steps}
 use lib.Ieee.{of_bits}
 use Rattle.floats.proofs.Laws.Magnitude.{sign_off}
-use Rattle.slow_filter.specs.Plain.{next_to_one}
+use Rattle.slow_filter.specs.PlainSlow.{next_to_one}
 use Rattle.slow_filter.proofs.next_to_one.Goals as goal
 
 pub returns : goal.returns

@@ -3,7 +3,7 @@ use Rattle.std.proofs.Common.{arith}
 use Rattle.std.proofs.lemmas.Grind.{common_steps}
 use lib.Ieee.{of_bits}
 use Rattle.floats.proofs.Laws.Magnitude.{sign_off}
-use Rattle.slow_filter.specs.Plain.{plain_log}
+use Rattle.slow_filter.specs.PlainSlow.{plain_log}
 use Rattle.slow_filter.proofs.plain_log.Goals as goal
 
 pub returns-then-abs : goal.returns-then-abs

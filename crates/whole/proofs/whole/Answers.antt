@@ -99,11 +99,11 @@ float_to_float-x c = widens (goal.at.float_to_float-x c).Start
 
 pub overflow_mul-n : goal.overflow_mul-n
 unfolding of_bits
-overflow_mul-n c = record { fits = no_more _ (leb (to_bits binary32 c.args.x % 2 ^ 31) 0x3100_0000) (to_unsigned-lt 32 _) }
+overflow_mul-n c = record { fits = no_more _ _ (to_unsigned-lt 32 _) }
 
-pub squarings-acc-requires : goal.squarings-acc-requires
+pub whole_power-acc-requires : goal.whole_power-acc-requires
 unfolding of_bits
-squarings-acc-requires c = sum_number (goal.at.squarings-acc-requires c).Start
+whole_power-acc-requires c = sum_number (goal.at.whole_power-acc-requires c).Start
 
 pub overflow_sub-below : goal.overflow_sub-below
 unfolding of_bits
@@ -111,16 +111,16 @@ overflow_sub-below c = one_bit _ (to_bits-lt binary32 c.args.y (passes _ c.well_
 
 pub turn_factor-requires : goal.turn_factor-requires
 unfolding of_bits
-turn_factor-requires c = acc_number (goal.at.turn_factor-requires c).Start _ _ c.abs-n.ensures.value c.squarings-acc.ensures
+turn_factor-requires c = acc_number (goal.at.turn_factor-requires c).Start _ _ c.abs-n.ensures.value c.whole_power-acc.ensures
 
 pub turn_factor-requires-2 : goal.turn_factor-requires-2
 unfolding of_bits
-turn_factor-requires-2 c = acc_number (goal.at.turn_factor-requires-2 c).Start _ _ c.abs-n.ensures.value c.squarings-acc.ensures
+turn_factor-requires-2 c = acc_number (goal.at.turn_factor-requires-2 c).Start _ _ c.abs-n.ensures.value c.whole_power-acc.ensures
 
 pub narrow_number-requires : goal.narrow_number-requires
 unfolding of_bits
-narrow_number-requires c = narrowable (goal.at.narrow_number-requires c).Start _ _ c.abs-n.ensures.value c.squarings-acc.ensures _ _ c.turn_factor.ensures c.turn_factor-2.ensures
+narrow_number-requires c = narrowable (goal.at.narrow_number-requires c).Start _ _ c.abs-n.ensures.value c.whole_power-acc.ensures _ _ c.turn_factor.ensures c.turn_factor-2.ensures
 
 pub returns : goal.returns
 unfolding of_bits
-returns c = c.narrow_number.ensures ∙ answer (goal.at.returns c).Start _ _ c.abs-n.ensures.value c.squarings-acc.ensures _ _ c.turn_factor.ensures c.turn_factor-2.ensures
+returns c = c.narrow_number.ensures ∙ answer (goal.at.returns c).Start _ _ c.abs-n.ensures.value c.whole_power-acc.ensures _ _ c.turn_factor.ensures c.turn_factor-2.ensures

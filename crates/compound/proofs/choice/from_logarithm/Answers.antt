@@ -1,20 +1,20 @@
 -- `from_logarithm` meets its contract: its tests are the definition's, and between -150 and 128 the powers have their entries. Assumes nothing.
-use Rattle.std.proofs.Common.{◌*◌, ◌%◌, ◌^◌, ◌≤◌, ◌<◌, arith}
+use Rattle.std.proofs.Common.{◌≡◌, true, ◌*◌, ◌%◌, ◌^◌, ◌≤◌, ◌<◌, arith}
 use Rattle.std.proofs.lemmas.Bool.{le-leb, lt-leb}
 use Rattle.std.proofs.lemmas.Float.{T_from_false, lt_of_not-le}
 use lib.Ieee.{binary64, of_bits, neg, to_bits, is_nan}
-use Rattle.fast_path.specs.Edges.{lower_edge, upper_edge}
+use Rattle.fast_path.specs.Edges.{lower_edge, upper_edge, gives_zero, gives_infinity}
 use Rattle.compound.specs.Answer.{outcome}
 use Rattle.compound.specs.Route.{from_logarithm}
 use Rattle.compound.proofs.choice.from_logarithm.Goals as goal
 
 pub returns-then-t : goal.returns-then-t
 unfolding of_bits neg outcome from_logarithm
-returns-then-t c = rw c.if-t.true
+returns-then-t c = let h : gives_zero c.args.t ≡ true = c.if-t.true in rw h
 
 pub returns-then-t-2 : goal.returns-then-t-2
 unfolding of_bits neg outcome from_logarithm
-returns-then-t-2 c = rw (c.if-t.false, c.if-t-2.true)
+returns-then-t-2 c = let h : gives_infinity c.args.t ≡ true = c.if-t-2.true in rw (c.if-t.false, h)
 
 -- a pattern without its sign, doubled, is the pattern shifted left once
 pub returns-then-t-le-EDGE_OF_ONE : goal.returns-then-t-le-EDGE_OF_ONE

@@ -1,4 +1,4 @@
--- What proves `subnormal_power`: a t from -149.5 to -128 can be split, and clear of the switches the scaled plain pattern is that of a value from 2^-151 to 2^-126. Assumes nothing.
+-- What proves `subnormal_power`: a t from -149.5 to -128 has a reduction, and clear of the switches the scaled plain pattern is that of a value from 2^-151 to 2^-126. Assumes nothing.
 use Rattle.std.proofs.Common.{◌≡◌, ◌*◌, ◌^◌, ◌<◌, ◌≤◌, true, false, T, sym, subst}
 use lib.Ieee.{Float, binary64, fits, le, lt, eq, to_signed}
 use lib.Ieee.Bits.{is_true}
@@ -6,15 +6,15 @@ use Rattle.floats.specs.Narrowing.{nearest_whole}
 use Rattle.special.specs.Special.{zero}
 use Rattle.fast_path.specs.Edges.{lower_edge, upper_edge}
 use Rattle.fast_path.specs.Scaling.{scaled}
-use Rattle.filter.specs.Plain.{part_of, rest_of, plain_pattern, clear_of_switches, slow_from, slow_to}
+use Rattle.filter.specs.Plain.{part_of, rest_of, plain_pattern, clear_of_switches, below_normal_from, below_normal_to}
 use Rattle.filter.proofs.NotZero.{not_zero}
 use Rattle.filter.proofs.Middle.{pattern_is}
-use Rattle.slow_filter.specs.Plain.{slow_switch_gap}
+use Rattle.slow_filter.specs.PlainSlow.{slow_switch_gap}
 use Rattle.slow_filter.proofs.Plain.{plain_unscaled}
 use Rattle.slow_filter.proofs.Reach.{reach_edges, reach_some, reach_k}
 use Rattle.slow_filter.proofs.Subnormal.{Below, scaled_below}
 
-module _ (t : Float) (f : T (fits binary64 t)) (most : T (le t slow_to)) (least : T (le slow_from t)) where
+module _ (t : Float) (f : T (fits binary64 t)) (most : T (le t below_normal_to)) (least : T (le below_normal_from t)) where
   pub splits_above : T (lt lower_edge t)
   splits_above = subst T (sym (reach_edges t f (is_true _ most) (is_true _ least)).above) tt
 
@@ -33,4 +33,4 @@ module _ (t : Float) (f : T (fits binary64 t)) (most : T (le t slow_to)) (least 
   pub pattern_below : clear_of_switches slow_switch_gap (part_of t) (rest_of t) ≡ true → scaled (plain_pattern t) (to_signed 63 (nearest_whole t)) < 897 * 2 ^ 52
   pattern_below e = (range e).most
 
-pub ruleset split = (splits_above, splits_below, splits_other, pattern_least, pattern_below, pattern_is)
+pub ruleset steps = (splits_above, splits_below, splits_other, pattern_least, pattern_below, pattern_is)

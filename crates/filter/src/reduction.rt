@@ -20,7 +20,7 @@ use tables::{CompoundfExp2T, Table};
 // The nearest whole number k to t; what is left of t over it; the index of the nearest 32nd to that; and
 // what is left over both.
 #[derive(Clone, Copy)]
-pub struct Split {
+pub struct Reduction {
     pub k: i64,
     pub part: f64,
     pub index: u64,
@@ -28,10 +28,10 @@ pub struct Split {
     ghost index_below: { index < 33 },
 }
 
-impl Split {
+impl Reduction {
     // Of a t from -150 to 128 that is not 0. No type says so: it would be made for this one call.
-    #[tactic(auto, using(crate::proofs::NotZero::split), unfolding(crate::specs::Plain::rest_of))]
-    pub fn of(t: f64) -> Split
+    #[tactic(auto, using(crate::proofs::NotZero::reduction), unfolding(crate::specs::Plain::rest_of))]
+    pub fn of(t: f64) -> Reduction
         requires t_above { T (lt lower_edge t) }
         requires t_below { T (lt t upper_edge) }
         requires not_zero { eq t zero ≡ false }
@@ -43,7 +43,7 @@ impl Split {
         let k = round_ties_even_small(t);
         let part = t - k;
         let index = power_index(part);
-        Split {
+        Reduction {
             k: k as i64,
             part,
             index,

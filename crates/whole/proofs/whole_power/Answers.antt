@@ -1,4 +1,4 @@
--- `squarings` meets its contract. The loop's invariant: with the turns that are left, the factors still to come lead to the power. Assumes nothing.
+-- `whole_power` meets its contract. The loop's invariant: with the turns that are left, the factors still to come lead to the power. Assumes nothing.
 use Rattle.std.proofs.Common.{◌≡◌, ℕ, suc, ◌+◌, ◌/◌, ◌%◌, Bool, true, false, cond, T, eqb, sym, ap, ◌∙◌, ap₂, zero-add, arith}
 use lib.Ieee.{Float, binary64, fits}
 use denote.Floats.{passes}
@@ -7,7 +7,7 @@ use Rattle.floats.proofs.Laws.Powers.{square_number}
 use Rattle.special.specs.Special.{one}
 use Rattle.whole.specs.Whole as spec
 use Rattle.whole.proofs.Squaring.{turn_factor, factors, factors_power}
-use Rattle.whole.proofs.squarings.Goals as goal
+use Rattle.whole.proofs.whole_power.Goals as goal
 
 -- the first factor is a value of the format
 first_fits : (b : Bool) (s : Float) → T (fits binary64 s) → T (fits binary64 (cond b s one))
