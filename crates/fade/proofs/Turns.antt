@@ -3,7 +3,7 @@ use Rattle.std.proofs.Common.{ℕ, zero, suc, ◌+◌, ◌<◌, ◌≤◌, ◌�
 use Rattle.std.proofs.Math.Seq.{take-append-add}
 use Rattle.std.proofs.lemmas.List.Elements.{All-nil, All-cons, All-append}
 use Rattle.std.proofs.KnownBytes.{Consumes-nil, Consumes-kept, Consumes-trans, Appends-nil, Appends-trans}
-use Rattle.std.specs.Prelude.{Option, Some, None, Result, Ok, Err, OnOk, All}
+use Rattle.std.specs.Prelude.{Option, Some, None, Result, Ok, Err, IfErr, OnOk, All}
 use Rattle.std.specs.Io.{ReadsAtMost}
 use Rattle.std.specs.Io.KnownBytes.{Appends, Consumes, ReadConsumes}
 use Rattle.std.specs.declared.io.Error.{Error}
@@ -14,6 +14,7 @@ use Rattle.batch.specs.declared.Refused.TheVariants.{Broken, TooManyLines, NoRoo
 use Rattle.batch.specs.Feed.{verdict, fed, FeedEffect}
 use Rattle.batch.specs.Series.{Call, Calls, state_of, is_accepted, wrote_all}
 use Rattle.batch.proofs.Room.{wrote_within}
+use Rattle.fade.specs.Stream.{Stands}
 use Rattle.fade.specs.declared.run.End.{End}
 use Rattle.fade.specs.declared.run.Failure.{Failure}
 use Rattle.fade.specs.declared.run.Failure.TheVariants.{NotRead, NotWritten, OutOfReads}
@@ -76,14 +77,14 @@ module _ (s : State) (p out : List ℕ) (step : Step) (s' : State) (out' : List 
   none_printed end e = rw (refused end e).0 refl
 
 -- A turn that read `got`: by what comes after the read, it is a turn with no call or one.
-module _ (got : Result ℕ Error) (s : State) (l out : List ℕ) (s' : State) (out' : List ℕ) (r : Result Step Failure) (a : AfterRead got s l out r s' out') (left left' : Option (List ℕ)) (bound : ReadsAtMost got l) (bytes : ReadConsumes left left' got l) (some : 0 < length l) (most : length l ≤ most_piece) where
+module _ (got : Result ℕ Error) (s : State) (l out : List ℕ) (s' : State) (out' : List ℕ) (r : Result Step Failure) (a : AfterRead got s l out r s' out') (left left' : Option (List ℕ)) (bound : ReadsAtMost got l) (bytes : ReadConsumes left left' got l) (stands : IfErr got Stands) (some : 0 < length l) (most : length l ≤ most_piece) where
   -- the read failed
   pub turn_failed : (f : Failure) → r ≡ Err f → (held : Option (List ℕ)) → (cs : List Call) × Turn s s' left left' held held cs (Err f)
   unfolding Calls state_of pieces_of wrote_all
-  turn_failed = by got a bytes
+  turn_failed = by got a bytes stands
     where
-      by : (got : Result ℕ Error) → AfterRead got s l out r s' out' → ReadConsumes left left' got l → (f : Failure) → r ≡ Err f → (held : Option (List ℕ)) → (cs : List Call) × Turn s s' left left' held held cs (Err f)
-      by (Err e) (u, is) keeps f fails held =
+      by : (got : Result ℕ Error) → AfterRead got s l out r s' out' → ReadConsumes left left' got l → IfErr got Stands → (f : Failure) → r ≡ Err f → (held : Option (List ℕ)) → (cs : List Call) × Turn s s' left left' held held cs (Err f)
+      by (Err e) (u, is) keeps stands f fails held =
           let f_is : f ≡ NotRead e = cc in
           rw f_is (
             [],
@@ -94,14 +95,14 @@ module _ (got : Result ℕ Error) (s : State) (l out : List ℕ) (s' : State) (o
                 pieces = All-nil IsRead;
                 read = Consumes-kept left left left' [] (Consumes-nil left) keeps;
                 written = Appends-nil held;
-                after = All-nil Accepted;
+                after = (All-nil Accepted, stands);
               };
               at_most_one = omega arith;
               one = λ e. absurd cc;
             },
           )
-      by (Ok zero) (u, (end, (is, number_is))) b f fails held = absurd cc
-      by (Ok (suc k)) (step, (is, t)) b f fails held = absurd cc
+      by (Ok zero) (u, (end, (is, number_is))) b stands f fails held = absurd cc
+      by (Ok (suc k)) (step, (is, t)) b stands f fails held = absurd cc
 
   -- the reading ended
   pub turn_ended : (end : End) → r ≡ Ok (Stop end) → (held : Option (List ℕ)) → (cs : List Call) × Turn s s' left left' held held cs (Ok (Some end))
@@ -160,13 +161,13 @@ module _ (got : Result ℕ Error) (s : State) (l out : List ℕ) (s' : State) (o
       by (Ok zero) (u, (end, (is, number_is))) = absurd cc
       by (Ok (suc k)) (step, (is, t)) = let e : step ≡ Print n = cc in print_within s (take (suc k) l) out step s' out' t n e
 
-  pub turn_printed : (n : ℕ) → r ≡ Ok (Print n) → (held held' : Option (List ℕ)) (w : Result Unit Error) → ((k : ℕ) × Appends held held' (take k (take n out'))) → OnOk w (Appends held held' (take n out')) → (cs : List Call) × Turn s s' left left' held held' cs (if_written None w)
+  pub turn_printed : (n : ℕ) → r ≡ Ok (Print n) → (held held' : Option (List ℕ)) (w : Result Unit Error) → ((k : ℕ) × Appends held held' (take k (take n out'))) → OnOk w (Appends held held' (take n out')) → IfErr w Stands → (cs : List Call) × Turn s s' left left' held held' cs (if_written None w)
   turn_printed n prints held held' = by got a bound bytes
     where
-      by : (got : Result ℕ Error) → AfterRead got s l out r s' out' → ReadsAtMost got l → ReadConsumes left left' got l → (w : Result Unit Error) → ((k : ℕ) × Appends held held' (take k (take n out'))) → OnOk w (Appends held held' (take n out')) → (cs : List Call) × Turn s s' left left' held held' cs (if_written None w)
-      by (Err e) (u, is) b c w front whole = absurd cc
-      by (Ok zero) (u, (end, (is, number_is))) b c w front whole = absurd cc
-      by (Ok (suc k)) (step, (is, t)) m b w front whole =
+      by : (got : Result ℕ Error) → AfterRead got s l out r s' out' → ReadsAtMost got l → ReadConsumes left left' got l → (w : Result Unit Error) → ((k : ℕ) × Appends held held' (take k (take n out'))) → OnOk w (Appends held held' (take n out')) → IfErr w Stands → (cs : List Call) × Turn s s' left left' held held' cs (if_written None w)
+      by (Err e) (u, is) b c w front whole stands = absurd cc
+      by (Ok zero) (u, (end, (is, number_is))) b c w front whole stands = absurd cc
+      by (Ok (suc k)) (step, (is, t)) m b w front whole stands =
           let e : step ≡ Print n = cc in
           let c = call s (take (suc k) l) out step s' out' t in
           let text = printed s (take (suc k) l) out step s' out' t n e in
@@ -180,10 +181,10 @@ module _ (got : Result ℕ Error) (s : State) (l out : List ℕ) (s' : State) (o
             written = written;
             after = after;
           } in
-          elim w as (λ w. OnOk w (Appends held held' (take n out')) → (cs : List Call) × Turn s s' left left' held held' cs (if_written None w)) [
-            | Ok u ↦ λ h. (c ∷ [], record { turns = turns (Ok None) (rw text h) (one_is Accepted c ok); at_most_one = omega arith; one = λ e. refl })
-            | Err f ↦ λ h. (c ∷ [], record { turns = turns (Err (NotWritten f)) (rw text front) (one_is Accepted c ok); at_most_one = omega arith; one = λ e. absurd cc })
-          ] whole
+          elim w as (λ w. OnOk w (Appends held held' (take n out')) → IfErr w Stands → (cs : List Call) × Turn s s' left left' held held' cs (if_written None w)) [
+            | Ok u ↦ λ h k. (c ∷ [], record { turns = turns (Ok None) (rw text h) (one_is Accepted c ok); at_most_one = omega arith; one = λ e. refl })
+            | Err f ↦ λ h k. (c ∷ [], record { turns = turns (Err (NotWritten f)) (rw text front) (one_is Accepted c ok, k); at_most_one = omega arith; one = λ e. absurd cc })
+          ] whole stands
 
 -- turns one after another
 calls_append : (s : State) (cs ds : List Call) → Calls FeedEffect s cs → Calls FeedEffect (state_of s cs) ds → Calls FeedEffect s (cs ++ ds)
@@ -227,8 +228,8 @@ after_append (Ok (Some end)) left s cs ds es few (inr i) =
       last_refused = i.last_refused;
       number_is = i.number_is;
     })
-after_append (Err (NotRead e)) left s cs ds es few h = All-append Accepted cs ds es h
-after_append (Err (NotWritten e)) left s cs ds es few h = All-append Accepted cs ds es h
+after_append (Err (NotRead e)) left s cs ds es few (h, stands) = (All-append Accepted cs ds es h, stands)
+after_append (Err (NotWritten e)) left s cs ds es few (h, stands) = (All-append Accepted cs ds es h, stands)
 after_append (Err OutOfReads) left s cs ds es few (h, many) = absurd (omega arith)
 
 pub turns_append : (next : Next) (s s' s'' : State) (left left' left'' held held' held'' : Option (List ℕ)) (cs ds : List Call) → Turns s s' left left' held held' cs (Ok None) → length ds ≤ 1 → Turns s' s'' left' left'' held' held'' ds next → Turns s s'' left left'' held held'' (cs ++ ds) next

@@ -106,7 +106,7 @@ prints_all left left' held held' r w bytes before e f few = by w.ended w.run w.t
   where
     by : (ended : Result End Failure) → Run fresh w.state left left' held w.answers_held w.calls ended → AfterRun ended w.state w.answers_held held' r → OnOk r ((left' ≡ Some []) × (held' ≡ Some (before ++ whole_output bytes)))
     by (Err failure) run (fails, same) = rw fails tt
-    by (Ok end) run last = told_so last.told.0 last.told.1
+    by (Ok end) run last = told_so last.told.0 last.told.1.0
       where
         ends : r ≡ Ok end → (left' ≡ Some []) × (held' ≡ Some (before ++ whole_output bytes))
         ends is = ended left left' held held' w.answers_held w.state w.calls end bytes before e f few run (rw is at last.written)

@@ -4,7 +4,7 @@
 -- afterwards. The same code runs over both.
 use Rattle.std.specs.Prelude.{ℕ, zero, suc, ◌≡◌, ◌<◌, ◌≤◌, true, ◌⊎◌, List, [], ◌∷◌, ◌++◌}
 use Rattle.std.specs.Prelude.{Option, None, Some, Result, Ok, Err}
-use Rattle.std.specs.Prelude.{All, OnOk, cond, eqb, take, length}
+use Rattle.std.specs.Prelude.{All, IfErr, OnOk, cond, eqb, take, length}
 use Rattle.std.specs.declared.io.Error.{Error}
 use Rattle.std.specs.Io.KnownBytes.{Appends, Consumes, IsAtEnd}
 use Rattle.state.specs.declared.State.{State}
@@ -17,6 +17,7 @@ use Rattle.piece.specs.Piece.{most_lines, replies, answer_lines}
 use Rattle.batch.specs.Feed.{verdict, fed, out_after, FeedEffect, closed, close_number}
 use Rattle.totals.specs.Totals.{totals, end_line}
 use Rattle.batch.specs.Series.{Call, Calls, state_of, is_accepted, wrote_all}
+use Rattle.fade.specs.Stream.{Stands}
 use Rattle.fade.specs.declared.run.End.{End}
 use Rattle.fade.specs.declared.run.Failure.{Failure}
 use Rattle.fade.specs.declared.run.Failure.TheVariants.{NotRead, NotWritten, OutOfReads}
@@ -109,8 +110,8 @@ pub record AtRefusal (cs : List Call) (n : ℕ) : Type 0 where
 abbrev pub After : Next → Option (List ℕ) → State → List Call → Type 0
 After (Ok None) left s cs = AllAccepted cs
 After (Ok (Some end)) left s cs = AtInputEnd left s cs (end_number end) ⊎ AtRefusal cs (end_number end)
-After (Err (NotRead e)) left s cs = AllAccepted cs
-After (Err (NotWritten e)) left s cs = AllAccepted cs
+After (Err (NotRead e)) left s cs = AllAccepted cs × Stands e
+After (Err (NotWritten e)) left s cs = AllAccepted cs × Stands e
 After (Err OutOfReads) left s cs = AllAccepted cs × (length cs ≡ most_reads)
 
 -- What was written of a text: all of it, or where a write failed a front of it
@@ -155,7 +156,7 @@ last_lines s end = totals s ++ end_line (end_number end)
 
 -- Printing the last lines of the state s: it is told that the run ended so, or that not all was written.
 pub record LastLines (s : State) (end : End) (held held' : Option (List ℕ)) (r : Result End Failure) : Type 0 where
-  pub told : (written : Result Unit Error) × (r ≡ if_written end written)
+  pub told : (written : Result Unit Error) × ((r ≡ if_written end written) × IfErr written Stands)
   pub written : Written r held held' (last_lines s end)
 
 -- What follows the last turn: the last lines after an end, and nothing after a failure.

@@ -1,5 +1,5 @@
 -- What comes of one answer of a read or a write.
-use Rattle.std.specs.Prelude.{ℕ, Bool, true, false, cond, Option, None, Some, Result, Ok, Err}
+use Rattle.std.specs.Prelude.{ℕ, ◌≡◌, Bool, true, false, cond, Option, None, Some, Result, Ok, Err}
 use Rattle.std.specs.declared.io.Error.{Error}
 use Rattle.std.specs.declared.io.ErrorKind.{ErrorKind}
 use Rattle.std.specs.declared.io.ErrorKind.TheVariants.{Interrupted, WouldBlock}
@@ -15,3 +15,7 @@ passes kind = false
 abbrev pub settled : Result ℕ Error → Option (Result ℕ Error)
 settled (Ok n) = Some (Ok n)
 settled (Err e) = cond (passes (error_kind e)) None (Some (Err e))
+
+-- a failure that stands: the same is not asked again
+abbrev pub Stands : Error → Type 0
+Stands e = passes (error_kind e) ≡ false

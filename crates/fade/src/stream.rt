@@ -1,10 +1,10 @@
 // Reading and writing with patience. Where a signal interrupts a read or a write, the same is tried
 // again; where a pipe that does not block has nothing to read yet, or no room, it is tried again after a
 // pause. Any other failure ends the run.
-ghost use Rattle.std.specs.Prelude.{◌≡◌, ℕ, IfOk, OnOk, take};
+ghost use Rattle.std.specs.Prelude.{◌≡◌, ℕ, IfErr, OnOk, take};
 ghost use Rattle.std.specs.Io.{ReadsAtMost};
 ghost use Rattle.std.specs.Io.KnownBytes.{Appends, ReadConsumes};
-ghost use Rattle.fade.specs.Stream.{settled};
+ghost use Rattle.fade.specs.Stream.{settled, Stands};
 
 use std::io::{ErrorKind, Read, Write};
 use std::rt::Clock;
@@ -43,19 +43,21 @@ pub(crate) fn read_some<R: Read>(
 ) -> io::Result<usize>
     ensures bound { ReadsAtMost result piece.new }
     ensures bytes { ReadConsumes (R.remaining input.old) (R.remaining input.new) result piece.new }
+    ensures stands { IfErr result Stands }
 {
     for _ in 0..TRIES {
         if let Some(answer) = settled(rt, input.read(piece)) {
             return answer;
         }
     }
-    input.read(piece)
+    Err(io::Error::from(ErrorKind::TimedOut))
 }
 
 // Writes a whole text, or fails and has written a front of it.
 pub(crate) fn write_whole<W: Write>(rt: &impl Clock, output: &mut W, text: &[u8]) -> io::Result<()>
     ensures front { (k : ℕ) × Appends (W.contents output.old) (W.contents output.new) (take k text.now) }
     ensures whole { OnOk result (Appends (W.contents output.old) (W.contents output.new) text.now) }
+    ensures stands { IfErr result Stands }
 {
     let mut rest = text;
     for _ in 0..TRIES {
