@@ -25,7 +25,7 @@ use Rattle.answers.specs.Exact.{exact_base, exact}
 use Rattle.answers.specs.Claims.{whole_to16, x_in_range, AnyOther}
 use Rattle.answers.specs.Reached.{PastRule, OnSlow}
 use Rattle.answers.specs.Unstarred.{UnstarredPairs}
-use Rattle.answers.specs.Witnesses.{f32, AtEach, AtNone, whole_ys, other_ys, xs_in_range, other_xs, bounded, is_bounded, ends, answer_twice, is_nan_at, nan_answers, found_at, filtered_pairs, Witnesses}
+use Rattle.answers.specs.Witnesses.{f32, AtEach, AtNone, whole_ys, other_ys, xs_in_range, other_xs, bounded, is_bounded, ends, answer_twice, is_nan_at, nan_answers, found_at, filtered_pairs}
 
 -- ---- document 01's rows without a star
 pub unstarred_pairs : UnstarredPairs
@@ -33,65 +33,45 @@ unfolding of_bits to_bits to_signed of_int add sub mul lt le eq ne is_nan narrow
 unstarred_pairs = refl
 
 -- ---- the bound
-ys : AtEach whole_to16 whole_ys × AtNone whole_to16 other_ys
+pub ys : AtEach whole_to16 whole_ys × AtNone whole_to16 other_ys
 unfolding of_bits lt le eq absolute is_integer whole_to16
 ys = (refl, refl)
 
-xs : AtEach x_in_range xs_in_range × AtNone x_in_range other_xs
+pub xs : AtEach x_in_range xs_in_range × AtNone x_in_range other_xs
 unfolding of_bits lt le eq is_zero x_in_range
 xs = (refl, refl)
 
-bound : (list_all is_bounded bounded ≡ true) × (map defined bounded ≡ map stated bounded) × (map ends bounded ≡ map answer_twice bounded)
+pub bound : (list_all is_bounded bounded ≡ true) × (map defined bounded ≡ map stated bounded) × (map ends bounded ≡ map answer_twice bounded)
 unfolding of_bits to_unsigned round add mul div lt le eq is_nan narrowed nearest_f32 absolute is_integer is_zero is_special is_rule is_whole is_tiny tiny squarings whole_power Whole.whole compound whole_to16 x_in_range exact exact_base Exact.raised Exact.raised_inverse
 bound = (refl, refl, refl)
 
 -- ---- a number and a NaN
-others : AnyOther (f32 0x3f000000) (f32 0x40000000) × AnyOther (f32 0xbf800000) (f32 0x3f800000) × AnyOther (f32 0x3f800000) (f32 0x43000000)
+pub others : AnyOther (f32 0x3f000000) (f32 0x40000000) × AnyOther (f32 0xbf800000) (f32 0x3f800000) × AnyOther (f32 0x3f800000) (f32 0x43000000)
 unfolding of_bits to_bits to_signed of_int add sub mul lt le eq ne is_nan narrowed nearest_whole absolute is_integer is_zero is_special is_rule is_whole split from_exact_mult from_full_exact_add from_exact_add full_add_f64 dd_fmla entry from_bit_pair pair_entry log2p1_compoundf_inv log2p1_compoundf_log2_inv compoundf_exp2_t compoundf_exp2_u log2p1_poly_p expf_poly_q scaled biased exponent_of inverse_index factor log2p1 expf_poly power_index exp2_reduced rounding_test exp2_fast decided from_logarithm table_path compound to_unsigned div is_tiny tiny squarings whole_power Whole.whole from_minus_one_to_zero special_table first_that_fits special
 others = (tt, tt, tt)
 
-nan_pairs : list_all is_nan_at nan_answers ≡ true
+pub nan_pairs : list_all is_nan_at nan_answers ≡ true
 unfolding of_bits to_bits to_signed of_int add sub mul lt le eq ne is_nan narrowed nearest_whole absolute is_integer is_zero is_special is_rule is_whole split from_exact_mult from_full_exact_add from_exact_add full_add_f64 dd_fmla entry from_bit_pair pair_entry log2p1_compoundf_inv log2p1_compoundf_log2_inv compoundf_exp2_t compoundf_exp2_u log2p1_poly_p expf_poly_q scaled biased exponent_of inverse_index factor log2p1 expf_poly power_index exp2_reduced rounding_test exp2_fast decided from_logarithm table_path compound to_unsigned div is_tiny tiny squarings whole_power Whole.whole from_minus_one_to_zero special_table first_that_fits special
 nan_pairs = refl
 
 -- ---- the routes
-past : PastRule (f32 0x3f000000) (f32 0x40000000) × (is_rule (f32 0x3f000000) (f32 0x7fc00000) ≡ true)
+pub past : PastRule (f32 0x3f000000) (f32 0x40000000) × (is_rule (f32 0x3f000000) (f32 0x7fc00000) ≡ true)
 unfolding of_bits lt le eq is_nan is_zero is_special is_rule
 past = (refl, refl)
 
-slow_taken : OnSlow (f32 0x3f800000) (f32 0xc3150000) × OnSlow (f32 0x25bfffff) (f32 0xdcce6666)
+pub slow_taken : OnSlow (f32 0x3f800000) (f32 0xc3150000) × OnSlow (f32 0x25bfffff) (f32 0xdcce6666)
 unfolding of_bits to_bits to_signed of_int add sub mul lt le eq ne is_nan narrowed nearest_whole absolute is_integer is_zero is_special is_rule is_whole split from_exact_mult from_full_exact_add from_exact_add full_add_f64 dd_fmla entry from_bit_pair pair_entry log2p1_compoundf_inv log2p1_compoundf_log2_inv compoundf_exp2_t compoundf_exp2_u log2p1_poly_p expf_poly_q scaled biased exponent_of inverse_index factor log2p1 expf_poly power_index exp2_reduced rounding_test exp2_fast decided from_logarithm table_path compound
 slow_taken = (refl, refl)
 
 -- ---- the table path
-on_table : Tabled (f32 0x3f800000) (f32 0x3f000000)
+pub on_table : Tabled (f32 0x3f800000) (f32 0x3f000000)
 unfolding of_bits lt fits
 on_table = record { base = record { x_fits = tt; x_finite = tt; x_above = tt }; y_fits = tt; y_finite = tt }
 
-indices : HasInverse one × HasPower zero
+pub indices : HasInverse one × HasPower zero
 unfolding of_bits to_bits add inverse_index power_index
 indices = ((lit≤ tt, lit< tt), (lit≤ tt, lit< tt))
 
-filter : map (λ p. found_at p.0) filtered_pairs ≡ map (λ p. p.1) filtered_pairs
+pub filter_pairs : map (λ p. found_at p.0) filtered_pairs ≡ map (λ p. p.1) filtered_pairs
 unfolding of_bits to_bits to_signed of_int neg add sub mul lt le eq narrowed nearest_whole entry from_bit_pair pair_entry log2p1_compoundf_inv log2p1_compoundf_log2_inv compoundf_exp2_t compoundf_exp2_u log2p1_poly_p expf_poly_q scaled biased exponent_of inverse_index factor log2p1 expf_poly power_index narrowed_pattern part_of rest_of plain_pattern near_midpoint rounded_pattern middle_found low_found high_found tiny_found is_tiny_t plain_found
-filter = refl
-
-pub witnesses : Witnesses
-witnesses = record {
-  y_whole = ys.0;
-  y_other = ys.1;
-  x_in = xs.0;
-  x_out = xs.1;
-  bound_asked = bound.0;
-  bound_answers = bound.1;
-  bound_ends = bound.2;
-  other = others;
-  no_other = nan_pairs;
-  past_rule = past.0;
-  not_past_rule = past.1;
-  on_slow = slow_taken;
-  tabled = on_table;
-  has_inverse = indices.0;
-  has_power = indices.1;
-  found = filter;
-}
+filter_pairs = refl
