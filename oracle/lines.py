@@ -19,7 +19,7 @@ def run(program, batch, out):
     ]
     child = os.posix_spawn(program, [program], os.environ, file_actions=files)
     _, status, usage = os.wait4(child, 0)
-    if status != 0:
+    if os.waitstatus_to_exitcode(status) not in (0, 8):  # 8: the batch ends in the middle of a line
         sys.exit(f"{program} failed on {batch}")
     return usage.ru_utime, usage.ru_stime
 

@@ -1,3 +1,4 @@
 -- The laws of `fade`.
 pub mod Feeds
 pub mod Turns
+pub mod Whole

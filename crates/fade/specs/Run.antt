@@ -1,70 +1,103 @@
--- Document 01, "One pair, one answer": what the batch program works out between what it reads and what it prints.
-use Rattle.std.specs.Prelude.{ℕ, zero, suc, ◌≡◌, true, ◌⊎◌, List, [], ◌∷◌, ◌++◌, Option, None, Some, Result, Ok, Err}
-use Rattle.std.specs.Prelude.{IfOk, take, length}
+-- Document 01, "One pair, one answer": what the batch program does between what it reads and what it prints. `left`
+-- is what the input has left and `held` what the output holds: the bytes where the reader or the writer says them, as
+-- one over memory does, and None where it does not, as standard input and output. With a prime they are as they stand
+-- afterwards. The same code runs over both.
+use Rattle.std.specs.Prelude.{ℕ, zero, suc, ◌≡◌, ◌<◌, ◌≤◌, true, ◌⊎◌, List, [], ◌∷◌, ◌++◌}
+use Rattle.std.specs.Prelude.{Option, None, Some, Result, Ok, Err}
+use Rattle.std.specs.Prelude.{All, IfErr, OnOk, cond, eqb, take, length}
 use Rattle.std.specs.declared.io.Error.{Error}
+use Rattle.std.specs.Io.KnownBytes.{Appends, Consumes, IsAtEnd}
 use Rattle.state.specs.declared.State.{State}
 use Rattle.batch.specs.declared.Refused.{Refused as Cause}
 use Rattle.batch.specs.declared.Refused.TheVariants.{Broken, TooManyLines, NoRoom}
-use Rattle.state.specs.Holding.{fresh}
+use Rattle.state.specs.Holding.{tail_of, fresh}
+use Rattle.scan.specs.Complete.{lines, rest, line_feeds}
+use Rattle.piece.specs.Counts.{tallies_of}
+use Rattle.piece.specs.Piece.{most_lines, replies, answer_lines}
 use Rattle.batch.specs.Feed.{verdict, fed, out_after, FeedEffect, closed, close_number}
 use Rattle.totals.specs.Totals.{totals, end_line}
-use Rattle.batch.specs.Series.{Call, Calls, state_of, is_accepted}
-use Rattle.fade.specs.declared.End.{End}
-use Rattle.fade.specs.declared.End.TheVariants as End
-use Rattle.fade.specs.declared.Told.{Told}
+use Rattle.batch.specs.Series.{Call, Calls, state_of, is_accepted, wrote_all}
+use Rattle.fade.specs.Stream.{Stands}
+use Rattle.fade.specs.declared.run.End.{End}
+use Rattle.fade.specs.declared.run.Failure.{Failure}
+use Rattle.fade.specs.declared.run.Failure.TheVariants.{NotRead, NotWritten, OutOfReads}
+use Rattle.fade.specs.declared.run.Step.{Step}
+use Rattle.fade.specs.declared.run.Step.TheVariants.{Print, Stop}
+
+-- "reads standard input in pieces of at most 8,192 bytes"
+abbrev pub most_piece : ℕ
+most_piece = 8192
+
+-- the most reads, which no run comes to
+abbrev pub most_reads : ℕ
+most_reads = 0xffff_ffff_ffff_ffff
+
+-- a call whose piece was read: a read of no bytes is the end of the input
+pub record IsRead (c : Call) : Type 0 where
+  pub some : 0 < length c.piece
+  pub at_most : length c.piece ≤ most_piece
 
 -- the number that is printed after the totals, 0 if there is none
-abbrev pub number : End → ℕ
-number End.Finished = 0
-number End.TooManyLines = 6
-number End.Unfinished = 8
+abbrev pub end_number : End → ℕ
+end_number End.Finished = 0
+end_number End.TooManyLines = 6
+end_number End.Unfinished = 8
 
--- what comes next: a read, or the end with its totals, or nothing after a failure that was told
+-- what comes next: another read, or the end, or nothing after a failure
 abbrev pub Next : Type 0
-Next = Result (Option End) Told
+Next = Result (Option End) Failure
 
--- what comes after a read or a write that may fail: `next`, or nothing after a failure that was told
-abbrev pub OrNothing : Option End → Next → Type 0
-OrNothing next r = IfOk r (λ x. x ≡ next)
+-- what comes after a write: what was to come, or nothing where not all was written
+abbrev pub if_written : {T : Type 0} → T → Result Unit Error → Result T Failure
+if_written next (Ok u) = Ok next
+if_written next (Err e) = Err (NotWritten e)
 
--- what comes after the answers to a piece: "A feed refused with 6 ends the reading". 5 and 7 do not come.
-abbrev pub AfterFeed : Result ℕ Cause → Next → Type 0
-AfterFeed (Ok n) r = OrNothing None r
-AfterFeed (Err TooManyLines) r = r ≡ Ok (Some End.TooManyLines)
-AfterFeed (Err Broken) r = ⊥
-AfterFeed (Err NoRoom) r = ⊥
+-- what comes after a piece was fed: "A feed refused with 6 ends the reading". 5 and 7 do not come.
+abbrev pub AfterFeed : Result ℕ Cause → Step → Type 0
+AfterFeed (Ok n) step = step ≡ Print n
+AfterFeed (Err TooManyLines) step = step ≡ Stop End.TooManyLines
+AfterFeed (Err Broken) step = ⊥
+AfterFeed (Err NoRoom) step = ⊥
 
 -- a turn that feeds the piece p to the state s: its state s' is the one that feed returns, what comes next goes by
 -- what feed answers, and every byte of the output is as feed leaves it
-pub record Answered (s : State) (p out : List ℕ) (next : Next) (s' : State) (out' : List ℕ) : Type 0 where
+pub record PieceTurn (s : State) (p out : List ℕ) (step : Step) (s' : State) (out' : List ℕ) : Type 0 where
   pub state_is : s' ≡ (fed s p (length out)).state
-  pub next_is : AfterFeed (verdict s p (length out)) next
+  pub step_is : AfterFeed (verdict s p (length out)) step
   pub output : out' ≡ out_after (verdict s p (length out)) s p out
 
 -- a turn that feeds nothing
-pub record Unfed (s : State) (out : List ℕ) (s' : State) (out' : List ℕ) : Type 0 where
+pub record NothingFed (s : State) (out : List ℕ) (s' : State) (out' : List ℕ) : Type 0 where
   pub state_is : s' ≡ s
   pub output : out' ≡ out
 
 -- A turn after a read that answered `got`, by what it answered: the read failed, the input is at its end, or that
--- many bytes at the front of l were read. At the end the totals come, and the number of closing the state.
-abbrev pub AfterRead : Result ℕ Error → State → List ℕ → List ℕ → Next → State → List ℕ → Type 0
-AfterRead (Err e) s l out next s' out' = Unfed s out s' out' × OrNothing None next
-AfterRead (Ok zero) s l out next s' out' = Unfed s out s' out' × ((end : End) × ((next ≡ Ok (Some end)) × (number end ≡ close_number (closed s))))
-AfterRead (Ok (suc k)) s l out next s' out' = Answered s (take (suc k) l) out next s' out'
+-- many bytes at the front of l were read. After a failure nothing comes; at the end, the number of closing the state.
+abbrev pub AfterRead : Result ℕ Error → State → List ℕ → List ℕ → Result Step Failure → State → List ℕ → Type 0
+AfterRead (Err e) s l out r s' out' = NothingFed s out s' out' × (r ≡ Err (NotRead e))
+AfterRead (Ok zero) s l out r s' out' =
+    NothingFed s out s' out' × ((end : End) × ((r ≡ Ok (Stop end)) × (end_number end ≡ close_number (closed s))))
+AfterRead (Ok (suc k)) s l out r s' out' =
+    (step : Step) × ((r ≡ Ok step) × PieceTurn s (take (suc k) l) out step s' out')
 
 -- every call was accepted
-unfoldable pub AllAccepted : List Call → Type 0
-AllAccepted [] = Unit
-AllAccepted (c ∷ cs) = (is_accepted c ≡ true) × AllAccepted cs
+abbrev pub AllAccepted : List Call → Type 0
+AllAccepted cs = All (λ c. is_accepted c ≡ true) cs
 
--- the reading ended with the input: the number is that of closing the state, "then `end=8` if a tail is unfinished"
-pub record AtEnd (cs : List Call) (n : ℕ) : Type 0 where
+-- the pieces of the calls, joined
+unfoldable pub pieces_of : List Call → List ℕ
+pieces_of [] = []
+pieces_of (c ∷ cs) = c.piece ++ pieces_of cs
+
+-- the input ended: nothing is left of it, and the number is that of closing the state, "then `end=8` if a tail is
+-- unfinished"
+pub record AtInputEnd (left : Option (List ℕ)) (s : State) (cs : List Call) (n : ℕ) : Type 0 where
+  pub nothing_left : IsAtEnd left
   pub all_accepted : AllAccepted cs
-  pub number_is : n ≡ close_number (closed (state_of fresh cs))
+  pub number_is : n ≡ close_number (closed (state_of s cs))
 
 -- "A feed refused with 6 ends the reading; after the totals it then prints `end=6` alone."
-pub record Refused (cs : List Call) (n : ℕ) : Type 0 where
+pub record AtRefusal (cs : List Call) (n : ℕ) : Type 0 where
   pub before : List Call
   pub last : Call
   pub calls_are : cs ≡ before ++ last ∷ []
@@ -72,17 +105,97 @@ pub record Refused (cs : List Call) (n : ℕ) : Type 0 where
   pub last_refused : last.returned.verdict ≡ Err TooManyLines
   pub number_is : n ≡ 6
 
--- The turn that ends the reading: there is a list of calls of feed from a fresh state, as in demand 3, which says
--- what they wrote and what their state holds. That state is the one whose totals come, if no failure was told, and
--- the number after them is that of the end of the input or of the refusal.
-pub record Run (s : State) (r : Result End Told) : Type 0 where
-  pub calls : List Call
-  pub made : Calls FeedEffect fresh calls
-  pub state_is : s ≡ state_of fresh calls
-  pub ended : IfOk r (λ end. AtEnd calls (number end) ⊎ Refused calls (number end))
+-- What is known of the calls from the state s, by what comes after them; `left` is what the input has left. Nothing
+-- comes only after a read that failed, a write that failed, or the last read that can be counted.
+abbrev pub After : Next → Option (List ℕ) → State → List Call → Type 0
+After (Ok None) left s cs = AllAccepted cs
+After (Ok (Some end)) left s cs = AtInputEnd left s cs (end_number end) ⊎ AtRefusal cs (end_number end)
+After (Err (NotRead e)) left s cs = AllAccepted cs × Stands e
+After (Err (NotWritten e)) left s cs = AllAccepted cs × Stands e
+After (Err OutOfReads) left s cs = AllAccepted cs × (length cs ≡ most_reads)
+
+-- What was written of a text: all of it, or where a write failed a front of it
+abbrev pub Written : {T : Type 0} → Result T Failure → Option (List ℕ) → Option (List ℕ) → List ℕ → Type 0
+Written (Ok next) held held' text = Appends held held' text
+Written (Err (NotRead e)) held held' text = Appends held held' text
+Written (Err (NotWritten e)) held held' text = (k : ℕ) × Appends held held' (take k text)
+Written (Err OutOfReads) held held' text = Appends held held' text
+
+-- Turns from the state s to the state s'. There is a list of calls of feed, as in demand 3, from the one to the other.
+-- Their pieces are what was read: the input had `left` and then `left'`. What they wrote was printed: the output had
+-- `held` and then `held'`.
+pub record Turns (s s' : State) (left left' held held' : Option (List ℕ)) (cs : List Call) (next : Next) : Type 0 where
+  pub made : Calls FeedEffect s cs
+  pub state_is : s' ≡ state_of s cs
+  pub pieces : All IsRead cs
+  pub read : Consumes left left' (pieces_of cs)
+  pub written : Written next held held' (wrote_all cs)
+  pub after : After next left' s cs
+
+-- one turn: it fed one piece at most, and just one where another read comes
+pub record Turn (s s' : State) (left left' held held' : Option (List ℕ)) (cs : List Call) (next : Next) : Type 0 where
+  pub turns : Turns s s' left left' held held' cs next
+  pub at_most_one : length cs ≤ 1
+  pub one : next ≡ Ok None → length cs ≡ 1
+
+-- what comes after the turn that ends the reading
+abbrev pub end_or_nothing : Result End Failure → Next
+end_or_nothing (Ok end) = Ok (Some end)
+end_or_nothing (Err failure) = Err failure
+
+-- the turns up to the one that ends the reading
+abbrev pub Run :
+    State → State → Option (List ℕ) → Option (List ℕ) → Option (List ℕ) → Option (List ℕ) → List Call
+    → Result End Failure → Type 0
+Run s s' left left' held held' cs r = Turns s s' left left' held held' cs (end_or_nothing r)
 
 -- What is printed after the answer lines: "then one line of totals, then `end=8` if a tail is unfinished", and "after
--- the totals it then prints `end=6` alone". Nothing comes after a failure.
-abbrev pub last_lines : State → Result End Told → List ℕ
-last_lines s (Ok end) = totals s ++ end_line (number end)
-last_lines s (Err told) = []
+-- the totals it then prints `end=6` alone".
+abbrev pub last_lines : State → End → List ℕ
+last_lines s end = totals s ++ end_line (end_number end)
+
+-- Printing the last lines of the state s: it is told that the run ended so, or that not all was written.
+pub record LastLines (s : State) (end : End) (held held' : Option (List ℕ)) (r : Result End Failure) : Type 0 where
+  pub told : (written : Result Unit Error) × ((r ≡ if_written end written) × IfErr written Stands)
+  pub written : Written r held held' (last_lines s end)
+
+-- What follows the last turn: the last lines after an end, and nothing after a failure.
+abbrev pub AfterRun : Result End Failure → State → Option (List ℕ) → Option (List ℕ) → Result End Failure → Type 0
+AfterRun (Ok end) s held held' r = LastLines s end held held' r
+AfterRun (Err failure) s held held' r = (r ≡ Err failure) × (held' ≡ held)
+
+-- A whole run: its turns begin with a fresh state, and what follows them are the last lines of the state that they
+-- come to. Demand 3 says what the calls wrote and what that state holds.
+pub record WholeRun (left left' held held' : Option (List ℕ)) (r : Result End Failure) : Type 0 where
+  pub calls : List Call
+  pub state : State
+  pub answers_held : Option (List ℕ)
+  pub ended : Result End Failure
+  pub run : Run fresh state left left' held answers_held calls ended
+  pub then : AfterRun ended state answers_held held' r
+
+-- the exit status: the end's number, 0 after a whole run, and 1 after a failure
+abbrev pub status : Result End Failure → ℕ
+status (Ok end) = end_number end
+status (Err failure) = 1
+
+-- The state after the bytes of an input, in demand 3's words: "The state's count of lines is the number of those
+-- lines, and the six tallies count them by route or as bad. The unfinished tail is held, or marked if over-long."
+abbrev pub state_after_input : List ℕ → State
+state_after_input bytes =
+    record { tail = tail_of (rest bytes); lines = length (lines bytes); tallies = tallies_of (replies (lines bytes)) }
+
+-- What the program prints for an input: "prints the answer lines, then one line of totals, then `end=8` if a tail is
+-- unfinished".
+abbrev pub whole_output : List ℕ → List ℕ
+whole_output bytes =
+    answer_lines (lines bytes)
+    ++ (totals (state_after_input bytes) ++ end_line (cond (eqb (length (rest bytes)) 0) 0 8))
+
+-- A run over an input that is known and has no more lines than can be counted, onto an output that is known: where it
+-- did not fail, nothing is left of the input, and the output has grown by what the program prints for it.
+abbrev pub PrintsAll :
+    Option (List ℕ) → Option (List ℕ) → Option (List ℕ) → Option (List ℕ) → Result End Failure → Type 0
+PrintsAll left left' held held' r =
+    (bytes before : List ℕ) → left ≡ Some bytes → held ≡ Some before → line_feeds bytes ≤ most_lines
+    → OnOk r ((left' ≡ Some []) × (held' ≡ Some (before ++ whole_output bytes)))
