@@ -12,7 +12,7 @@ use Rattle.batch.specs.declared.Refused.{Refused as Cause}
 use Rattle.batch.specs.declared.Refused.TheVariants.{Broken, TooManyLines, NoRoom}
 use Rattle.state.specs.Holding.{tail_of, fresh}
 use Rattle.scan.specs.Complete.{lines, rest, line_feeds}
-use Rattle.piece.specs.Counts.{tallies_of}
+use Rattle.piece.specs.Tally.{tallies_of}
 use Rattle.piece.specs.Piece.{most_lines, replies, answer_lines}
 use Rattle.batch.specs.Feed.{verdict, fed, out_after, FeedEffect, closed, close_number}
 use Rattle.totals.specs.Totals.{totals, end_line}
