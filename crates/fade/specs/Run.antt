@@ -4,7 +4,7 @@
 -- both.
 use Rattle.std.specs.Prelude.{ℕ, zero, suc, ◌≡◌, ◌<◌, ◌≤◌, true, ◌⊎◌, List, [], ◌∷◌, ◌++◌}
 use Rattle.std.specs.Prelude.{Option, None, Some, Result, Ok, Err}
-use Rattle.std.specs.Prelude.{All, IfErr, OnOk, cond, eqb, take, length}
+use Rattle.std.specs.Prelude.{All, IfErr, MatchResult, cond, eqb, take, length}
 use Rattle.std.specs.Io.KnownBytes.{Appends, Consumes, IsAtEnd}
 use Rattle.state.specs.declared.State.{State}
 use Rattle.batch.specs.declared.Refused.{Refused as Cause}
@@ -192,10 +192,13 @@ whole_output bytes =
     answer_lines (lines bytes)
     ++ (totals (state_after_input bytes) ++ end_line (cond (eqb (length (rest bytes)) 0) 0 8))
 
--- A run over an input that is known and has no more lines than can be counted, onto an output that is known: where it
--- did not fail, nothing is left of the input, and the output has grown by what the program prints for it.
+-- A run over an input that is known and has no more lines than can be counted, onto an output that is known. Where it
+-- did not fail, nothing is left of the input, and the output has grown by what the program prints for it. Where it
+-- failed, the output has grown by a front of that.
 abbrev pub PrintsAll :
     Option (List ℕ) → Option (List ℕ) → Option (List ℕ) → Option (List ℕ) → Result End Failure → Type 0
 PrintsAll input input' output output' r =
     (bytes before : List ℕ) → input ≡ Some bytes → output ≡ Some before → line_feeds bytes ≤ most_lines
-    → OnOk r ((input' ≡ Some []) × (output' ≡ Some (before ++ whole_output bytes)))
+    → MatchResult r
+        (λ _. (input' ≡ Some []) × (output' ≡ Some (before ++ whole_output bytes)))
+        (λ _. (k : ℕ) × (output' ≡ Some (before ++ take k (whole_output bytes))))

@@ -198,6 +198,18 @@ pub(crate) fn answer_all<R: Read, W: Write>(
     ensures prints_all { PrintsAll (R.remaining input.old) (R.remaining input.new)
         (W.contents output.old) (W.contents output.new) result }
 {
+    whole_run(rt, input, output)
+}
+
+// The turns, and then the last lines.
+fn whole_run<R: Read, W: Write>(
+    rt: &impl Clock,
+    input: &mut R,
+    output: &mut W,
+) -> Result<End, Failure>
+    ensures { WholeRun (R.remaining input.old) (R.remaining input.new)
+        (W.contents output.old) (W.contents output.new) result }
+{
     let mut workspace = Workspace::new();
     let end = workspace.answer_input(rt, input, output)?;
     print_last_lines(rt, output, workspace.state, end)
