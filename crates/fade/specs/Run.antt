@@ -18,6 +18,8 @@ use Rattle.totals.specs.Totals.{totals, end_line}
 use Rattle.batch.specs.Series.{Call, Calls, state_of, is_accepted, wrote_all}
 use Rattle.fade.specs.Stream.{GivenUp, ReadAgain, WriteAgain}
 use Rattle.fade.specs.declared.stream.NotDone.{NotDone}
+use Rattle.fade.specs.declared.task.Task.{Task}
+use Rattle.fade.specs.declared.task.Task.TheVariants.{AnswerInput, Help, Version, Usage}
 use Rattle.fade.specs.declared.run.End.{End}
 use Rattle.fade.specs.declared.run.Failure.{Failure}
 use Rattle.fade.specs.declared.run.Failure.TheVariants.{NotRead, NotWritten, OutOfReads}
@@ -154,10 +156,14 @@ Run s s' input input' output output' cs r = Turns s s' input input' output outpu
 abbrev pub last_lines : State → End → List ℕ
 last_lines s end = totals s ++ end_line (end_number end)
 
--- Printing the last lines of the state s: the result says that the run ended so, or that not all was written.
-pub record LastLines (s : State) (end : End) (output output' : Option (List ℕ)) (r : Result End Failure) : Type 0 where
+-- Printing a text as the last of a run: the result says that the run ended so, or that not all was written.
+pub record Prints (text : List ℕ) (end : End) (output output' : Option (List ℕ)) (r : Result End Failure) : Type 0 where
   pub result_is : (written : Result Unit NotDone) × ((r ≡ if_written end written) × IfErr written (GivenUp WriteAgain))
-  pub written : Written r output output' (last_lines s end)
+  pub written : Written r output output' text
+
+-- printing the last lines of the state s
+abbrev pub LastLines : State → End → Option (List ℕ) → Option (List ℕ) → Result End Failure → Type 0
+LastLines s end output output' r = Prints (last_lines s end) end output output' r
 
 -- What follows the last turn: the last lines after an end, and nothing after a failure.
 abbrev pub AfterRun : Result End Failure → State → Option (List ℕ) → Option (List ℕ) → Result End Failure → Type 0
@@ -202,3 +208,16 @@ PrintsAll input input' output output' r =
     → MatchResult r
         (λ _. (input' ≡ Some []) × (output' ≡ Some (before ++ whole_output bytes)))
         (λ _. (k : ℕ) × (output' ≡ Some (before ++ take k (whole_output bytes))))
+
+-- Doing a task, with the exit status n: help and version print a text and read nothing; an argument that is not known
+-- prints nothing on standard output, reads nothing and ends with 2.
+abbrev pub Done :
+    Task → (help version : List ℕ) → Option (List ℕ) → Option (List ℕ) → Option (List ℕ) → Option (List ℕ) → ℕ → Type 0
+Done AnswerInput help version input input' output output' n =
+    (r : Result End Failure)
+    × ((n ≡ status r) × (WholeRun input input' output output' r × PrintsAll input input' output output' r))
+Done Help help version input input' output output' n =
+    (r : Result End Failure) × ((n ≡ status r) × (Prints help End.Finished output output' r × (input' ≡ input)))
+Done Version help version input input' output output' n =
+    (r : Result End Failure) × ((n ≡ status r) × (Prints version End.Finished output output' r × (input' ≡ input)))
+Done Usage help version input input' output output' n = (n ≡ 2) × ((output' ≡ output) × (input' ≡ input))

@@ -8,24 +8,12 @@ mod stream;
 mod task;
 mod tell;
 
-use run::{answer_all, exit_code, print};
+use run::do_task;
 use std::process::ExitCode;
-use task::{Task, requested_task};
-use tell::{HELP, USAGE, VERSION, tell};
+use task::requested_task;
+use tell::{HELP, VERSION};
 
 fn main(rt: HostRuntime) -> ExitCode {
-    let output = &mut rt.stdout();
-    let ended = match requested_task(&rt) {
-        Task::AnswerInput => answer_all(&rt, &mut rt.stdin(), output),
-        Task::Help => print(&rt, output, HELP),
-        Task::Version => print(&rt, output, VERSION),
-        Task::Usage => {
-            let _ = rt.eprint(USAGE);
-            return ExitCode::from(2);
-        }
-    };
-    if let Err(failure) = ended {
-        tell(&rt, failure);
-    }
-    exit_code(ended)
+    let task = requested_task(&rt);
+    do_task(&rt, task, HELP, VERSION, &mut rt.stdin(), &mut rt.stdout())
 }

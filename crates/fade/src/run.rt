@@ -10,9 +10,12 @@ ghost use Rattle.state.specs.Holding.{fresh, broken};
 ghost use Rattle.batch.specs.Feed.{closed, close_number};
 ghost use Rattle.batch.specs.Series.{Call};
 ghost use Rattle.fade.specs.Run.{end_number, if_written, PieceTurn, AfterRead, Turn, Run};
-ghost use Rattle.fade.specs.Run.{LastLines, WholeRun, PrintsAll, status};
+ghost use Rattle.fade.specs.Run.{Prints, LastLines, WholeRun, PrintsAll, Done, status};
+ghost use Rattle.fade.specs.declared.run.End.{End};
 
 use crate::stream::{NotDone, read_some, write_whole};
+use crate::task::Task;
+use crate::tell::{USAGE, tell};
 use batch::{ANSWER_GROWTH, NotClosed, OVER_LONG, Refused, State, TOTALS};
 use std::io::{Read, Write};
 use std::process::ExitCode;
@@ -215,8 +218,35 @@ fn whole_run<R: Read, W: Write>(
     print_last_lines(rt, output, workspace.state, end)
 }
 
+// Does a task, and gives the exit status. Why it was cut short is told on standard error.
+pub(crate) fn do_task<R: Read, W: Write>(
+    rt: &(impl Clock + Eprint),
+    task: Task,
+    help: &str,
+    version: &str,
+    input: &mut R,
+    output: &mut W,
+) -> ExitCode
+    ensures { Done task help.now version.now (R.remaining input.old) (R.remaining input.new)
+        (W.contents output.old) (W.contents output.new) (exit_status result) }
+{
+    let ended = match task {
+        Task::AnswerInput => answer_all(rt, input, output),
+        Task::Help => print(rt, output, help),
+        Task::Version => print(rt, output, version),
+        Task::Usage => {
+            let _ = rt.eprint(USAGE);
+            return ExitCode::from(2);
+        }
+    };
+    if let Err(failure) = ended {
+        tell(rt, failure);
+    }
+    exit_code(ended)
+}
+
 // The exit status: the end's number, 0 after a whole run, and 1 after a failure.
-pub(crate) fn exit_code(ended: Result<End, Failure>) -> ExitCode
+fn exit_code(ended: Result<End, Failure>) -> ExitCode
     ensures { exit_status result ≡ status ended }
 {
     match ended {
@@ -226,6 +256,8 @@ pub(crate) fn exit_code(ended: Result<End, Failure>) -> ExitCode
 }
 
 // Prints a text that is no answer.
-pub(crate) fn print<W: Write>(rt: &impl Clock, output: &mut W, text: &str) -> Result<End, Failure> {
+fn print<W: Write>(rt: &impl Clock, output: &mut W, text: &str) -> Result<End, Failure>
+    ensures { Prints text.now End.Finished (W.contents output.old) (W.contents output.new) result }
+{
     if_written(End::Finished, write_whole(rt, output, text.as_bytes()))
 }
