@@ -206,8 +206,8 @@ abbrev pub PrintsAll :
 PrintsAll input input' output output' r =
     (bytes before : List ℕ) → input ≡ Some bytes → output ≡ Some before → line_feeds bytes ≤ most_lines
     → MatchResult r
-        (λ _. (input' ≡ Some []) × (output' ≡ Some (before ++ whole_output bytes)))
-        (λ _. (k : ℕ) × (output' ≡ Some (before ++ take k (whole_output bytes))))
+    (λ _. (input' ≡ Some []) × (output' ≡ Some (before ++ whole_output bytes)))
+    (λ _. (k : ℕ) × (output' ≡ Some (before ++ take k (whole_output bytes))))
 
 -- Doing a task, with the exit status n: help and version print a text and read nothing; an argument that is not known
 -- prints nothing on standard output, reads nothing and ends with 2.

@@ -11,9 +11,8 @@ mod tell;
 use run::do_task;
 use std::process::ExitCode;
 use task::requested_task;
-use tell::{HELP, VERSION};
 
 fn main(rt: HostRuntime) -> ExitCode {
     let task = requested_task(&rt);
-    do_task(&rt, task, HELP, VERSION, &mut rt.stdin(), &mut rt.stdout())
+    do_task(&rt, task, &mut rt.stdin(), &mut rt.stdout())
 }

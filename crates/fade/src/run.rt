@@ -15,7 +15,7 @@ ghost use Rattle.fade.specs.declared.run.End.{End};
 
 use crate::stream::{NotDone, read_some, write_whole};
 use crate::task::Task;
-use crate::tell::{USAGE, tell};
+use crate::tell::{HELP, USAGE, VERSION, tell};
 use batch::{ANSWER_GROWTH, NotClosed, OVER_LONG, Refused, State, TOTALS};
 use std::io::{Read, Write};
 use std::process::ExitCode;
@@ -222,18 +222,16 @@ fn whole_run<R: Read, W: Write>(
 pub(crate) fn do_task<R: Read, W: Write>(
     rt: &(impl Clock + Eprint),
     task: Task,
-    help: &str,
-    version: &str,
     input: &mut R,
     output: &mut W,
 ) -> ExitCode
-    ensures { Done task help.now version.now (R.remaining input.old) (R.remaining input.new)
+    ensures { Done task HELP.now VERSION.now (R.remaining input.old) (R.remaining input.new)
         (W.contents output.old) (W.contents output.new) (exit_status result) }
 {
     let ended = match task {
         Task::AnswerInput => answer_all(rt, input, output),
-        Task::Help => print(rt, output, help),
-        Task::Version => print(rt, output, version),
+        Task::Help => print(rt, output, HELP),
+        Task::Version => print(rt, output, VERSION),
         Task::Usage => {
             let _ = rt.eprint(USAGE);
             return ExitCode::from(2);

@@ -18,9 +18,10 @@ At the end come the totals, then end=8 if the last line has no line feed.
   lines=1 rule=0 whole=1 edge=0 fast=0 slow=0 bad=0
 
 The exit status is 0 after a whole run, 8 after such an end, 6 if more lines came than can be counted, and 2 after
-an argument that is not known. It is 1 after a failure, which is told on standard error: do not use such a run.
+an argument that is not known. It is 1 after a failure: do not use such a run. A failure is told on standard error,
+but for a reader of the output that went away.
 
-usage: fade < LINES
+usage: fade < FILE
        fade --help
        fade --version
 README.md says how to make x and y from decimals, and what the answers mean.
@@ -33,7 +34,7 @@ fade 0.1.0, as pxfm 0.1.30, proved with rattle-kit-13f logic dac8208d650f15bf
 
 // For any other argument.
 pub(crate) const USAGE: &str =
-    "usage: fade < LINES, fade --help or fade --version; nothing was read\n";
+    "usage: fade < FILE, fade --help or fade --version; nothing was read\n";
 
 // Says on standard error why no totals came. Where nobody reads the output any more, nothing is said.
 pub(crate) fn tell(rt: &impl Eprint, failure: Failure) {
