@@ -1,13 +1,13 @@
 -- Document 01, "One pair, one answer": the example, "For the two lines [..] it prints", computed from the definitions.
 use Rattle.std.specs.Prelude.{ℕ, ◌+◌, ◌≡◌, Ok, Err, List, ◌++◌, replicate, codes}
 use Rattle.state.specs.declared.State.{State}
-use Rattle.scan.specs.Complete.{line_feed, lines}
+use Rattle.scan.specs.Complete.{line_feed}
 use Rattle.state.specs.Holding.{zeros, zero_tallies, fresh}
-use Rattle.piece.specs.Piece.{most_lines, answer_lines, state_after_piece}
-use Rattle.totals.specs.Totals.{totals, end_line}
+use Rattle.piece.specs.Piece.{most_lines, state_after_piece}
 use Rattle.batch.specs.declared.Refused.TheVariants.{Broken, TooManyLines, NoRoom}
 use Rattle.batch.specs.declared.NotClosed.TheVariants.{BrokenState, Unfinished}
-use Rattle.batch.specs.Feed.{verdict, closed, close_number}
+use Rattle.batch.specs.Feed.{verdict, closed}
+use Rattle.batch.specs.Input.{whole_output}
 
 -- "the two lines `id=7 x=3f000000 y=40000000` and `id=07 x=3f000000 y=40000000`"
 abbrev pub example_input : List ℕ
@@ -22,15 +22,8 @@ example_output =
     codes "bad=2\n" ++
     codes "lines=2 rule=0 whole=1 edge=0 fast=0 slow=0 bad=1\n"
 
--- "prints the answer lines, then one line of totals, then `end=8` if a tail is unfinished": for an input that a fresh
--- state takes
-abbrev pub printed : List ℕ → List ℕ
-printed input =
-    let s = state_after_piece fresh input in
-    answer_lines (lines input) ++ totals s ++ end_line (close_number (closed s))
-
 abbrev pub Example : Type 0
-Example = printed example_input ≡ example_output
+Example = whole_output example_input ≡ example_output
 
 -- a fresh state, but for the tail count
 abbrev pub with_count : ℕ → State
