@@ -46,22 +46,27 @@ unfolding of_bits to_unsigned round add mul div lt le eq is_nan narrowed nearest
 bound = (refl, refl, refl)
 
 -- ---- a number and a NaN
-pub others : AnyOther (f32 0x3f000000) (f32 0x40000000) × AnyOther (f32 0xbf800000) (f32 0x3f800000) × AnyOther (f32 0x3f800000) (f32 0x43000000)
-unfolding of_bits to_bits to_signed of_int add sub mul lt le eq ne is_nan narrowed nearest_whole absolute is_integer is_zero is_special is_rule is_whole split from_exact_mult from_full_exact_add from_exact_add full_add_f64 dd_fmla entry from_bit_pair pair_entry log2p1_compoundf_inv log2p1_compoundf_log2_inv compoundf_exp2_t compoundf_exp2_u log2p1_poly_p expf_poly_q scaled biased exponent_of inverse_index factor log2p1 expf_poly power_index exp2_reduced rounding_test exp2_fast decided from_logarithm table_path compound to_unsigned div is_tiny tiny squarings whole_power Whole.whole from_minus_one_to_zero special_table first_that_fits special
-others = (tt, tt, tt)
+pub others : AnyOther (f32 0x3f000000) (f32 0x40000000) × AnyOther (f32 0xbf800000) (f32 0x3f800000)
+    × AnyOther (f32 0x3f800000) (f32 0x43000000) × AnyOther (f32 0xb951b717) (f32 0x43fa0000)
+    × AnyOther (f32 0x3f800000) (f32 0xc3150000)
+unfolding of_bits to_bits to_signed of_int add sub mul lt le eq ne is_nan narrowed nearest_whole absolute is_integer is_zero is_special is_rule is_whole split from_exact_mult from_full_exact_add from_exact_add full_add_f64 dd_fmla quick_mult quick_mult_f64 entry from_bit_pair pair_entry log2p1_compoundf_inv log2p1_compoundf_log2_inv compoundf_exp2_t compoundf_exp2_u log2p1_scale log2p1_log2_poly exp2_poly_q2 log2p1_poly_p expf_poly_q scaled biased exponent_of inverse_index factor log2p1 expf_poly power_index exp2_reduced rounding_test exp2_fast with_term next_log2 higher log2_poly2 one_plus times_inverse sum_of_logs log2_reduced compoundf_log2p1_accurate next_exp2 highest_exp2 compoundf_exp2_poly2 clamped_index clamped_k err_of test_pattern is_lost one_towards rounded_to_odd scaled_to_f32 exp2_product is_small exp2_away is_near_one exp2_accurate compoundf_accurate decided from_logarithm table_path compound to_unsigned div is_tiny tiny squarings whole_power Whole.whole from_minus_one_to_zero special_table first_that_fits special
+others = (tt, tt, tt, tt, tt)
 
 pub nan_pairs : list_all is_nan_at nan_answers ≡ true
 unfolding of_bits to_bits to_signed of_int add sub mul lt le eq ne is_nan narrowed nearest_whole absolute is_integer is_zero is_special is_rule is_whole split from_exact_mult from_full_exact_add from_exact_add full_add_f64 dd_fmla entry from_bit_pair pair_entry log2p1_compoundf_inv log2p1_compoundf_log2_inv compoundf_exp2_t compoundf_exp2_u log2p1_poly_p expf_poly_q scaled biased exponent_of inverse_index factor log2p1 expf_poly power_index exp2_reduced rounding_test exp2_fast decided from_logarithm table_path compound to_unsigned div is_tiny tiny squarings whole_power Whole.whole from_minus_one_to_zero special_table first_that_fits special
 nan_pairs = refl
 
 -- ---- the routes
-pub past : PastRule (f32 0x3f000000) (f32 0x40000000) × (is_rule (f32 0x3f000000) (f32 0x7fc00000) ≡ true)
+pub past : (PastRule (f32 0x3f000000) (f32 0x40000000) × PastRule (f32 0x21800000) (f32 0x5d800000)
+    × PastRule (f32 0xb951b717) (f32 0x43fa0000) × PastRule (f32 0x3f800000) (f32 0xc3150000))
+    × (is_rule (f32 0x3f000000) (f32 0x7fc00000) ≡ true)
 unfolding of_bits lt le eq is_nan is_zero is_special is_rule
-past = (refl, refl)
+past = ((refl, refl, refl, refl), refl)
 
 pub slow_taken : OnSlow (f32 0x3f800000) (f32 0xc3150000) × OnSlow (f32 0x25bfffff) (f32 0xdcce6666)
+    × OnSlow (f32 0x3f800001) (f32 0x41880000) × OnSlow (f32 0xbbd201d8) (f32 0x4656a9bb)
 unfolding of_bits to_bits to_signed of_int add sub mul lt le eq ne is_nan narrowed nearest_whole absolute is_integer is_zero is_special is_rule is_whole split from_exact_mult from_full_exact_add from_exact_add full_add_f64 dd_fmla entry from_bit_pair pair_entry log2p1_compoundf_inv log2p1_compoundf_log2_inv compoundf_exp2_t compoundf_exp2_u log2p1_poly_p expf_poly_q scaled biased exponent_of inverse_index factor log2p1 expf_poly power_index exp2_reduced rounding_test exp2_fast decided from_logarithm table_path compound
-slow_taken = (refl, refl)
+slow_taken = (refl, refl, refl, refl)
 
 -- ---- the table path
 pub on_table : Tabled (f32 0x3f800000) (f32 0x3f000000)

@@ -28,9 +28,13 @@ abbrev pub AtNone : (Float → Bool) → List ℕ → Type 0
 AtNone test ns = AtEach (λ x. not (test x)) ns
 
 -- ---- "y is whole, 1 <= |y| <= 16"
--- 1, -1, 2, 3, 15, 16, -16
+-- all 32 of them: 1 to 16, and -1 to -16
 abbrev pub whole_ys : List ℕ
-whole_ys = 0x3f800000 ∷ 0xbf800000 ∷ 0x40000000 ∷ 0x40400000 ∷ 0x41700000 ∷ 0x41800000 ∷ 0xc1800000 ∷ []
+whole_ys =
+    0x3f800000 ∷ 0x40000000 ∷ 0x40400000 ∷ 0x40800000 ∷ 0x40a00000 ∷ 0x40c00000 ∷ 0x40e00000 ∷ 0x41000000 ∷
+    0x41100000 ∷ 0x41200000 ∷ 0x41300000 ∷ 0x41400000 ∷ 0x41500000 ∷ 0x41600000 ∷ 0x41700000 ∷ 0x41800000 ∷
+    0xbf800000 ∷ 0xc0000000 ∷ 0xc0400000 ∷ 0xc0800000 ∷ 0xc0a00000 ∷ 0xc0c00000 ∷ 0xc0e00000 ∷ 0xc1000000 ∷
+    0xc1100000 ∷ 0xc1200000 ∷ 0xc1300000 ∷ 0xc1400000 ∷ 0xc1500000 ∷ 0xc1600000 ∷ 0xc1700000 ∷ 0xc1800000 ∷ []
 
 -- 17, -17, the next f32 above 16, 1/2, -1/2, 3/2, the two zeros, the two infinities, the NaN
 abbrev pub other_ys : List ℕ
@@ -39,9 +43,12 @@ other_ys =
     0x7f800000 ∷ 0xff800000 ∷ 0x7fc00000 ∷ []
 
 -- ---- "x nonzero and -1 < x < 2^64"
--- 1/2, the largest f32 below 2^64, the least above -1, the two next to 0
+-- 1/2, the largest f32 below 2^64, the least above -1, the two next to 0; and losses of 0.02 %, 0.05 % and 1 %, a
+-- growth of 10 %, -1/2, -2^-20 and -2^-30
 abbrev pub xs_in_range : List ℕ
-xs_in_range = 0x3f000000 ∷ 0x5f7fffff ∷ 0xbf7fffff ∷ 0x00000001 ∷ 0x80000001 ∷ []
+xs_in_range =
+    0x3f000000 ∷ 0x5f7fffff ∷ 0xbf7fffff ∷ 0x00000001 ∷ 0x80000001 ∷
+    0xb951b717 ∷ 0xba03126f ∷ 0xbc23d70a ∷ 0x3dcccccd ∷ 0xbf000000 ∷ 0xb5800000 ∷ 0xb0800000 ∷ []
 
 -- 2^64, -1, -2, the two zeros, the two infinities, the NaN
 abbrev pub other_xs : List ℕ
@@ -59,7 +66,8 @@ bounded =
     row 0xbf7fffff 0x3f800000 0x33800000 whole ∷
     row 0xbf7fffff 0xc1800000 0x7f800000 whole ∷
     row 0x00000001 0x41800000 0x3f800000 whole ∷
-    row 0x80000001 0xbf800000 0x3f800000 whole ∷ []
+    row 0x80000001 0xbf800000 0x3f800000 whole ∷
+    row 0xbc23d70a 0x41200000 0x3f678595 whole ∷ []
 
 -- whether it speaks of a row
 abbrev pub is_bounded : Row → Bool
@@ -103,15 +111,18 @@ pub record Witnesses : Type 0 where
   pub bound_asked : list_all is_bounded bounded ≡ true
   pub bound_answers : map defined bounded ≡ map stated bounded
   pub bound_ends : map ends bounded ≡ map answer_twice bounded
-  -- 1.5^2, 0 at x = -1, an overflow; and x < -1, a NaN on either side
+  -- one of each route: `whole`, `rule`, `edge`, `fast`, `slow`; and x < -1, a NaN on either side
   pub other : AnyOther (f32 0x3f000000) (f32 0x40000000) × AnyOther (f32 0xbf800000) (f32 0x3f800000)
-      × AnyOther (f32 0x3f800000) (f32 0x43000000)
+      × AnyOther (f32 0x3f800000) (f32 0x43000000) × AnyOther (f32 0xb951b717) (f32 0x43fa0000)
+      × AnyOther (f32 0x3f800000) (f32 0xc3150000)
   pub no_other : list_all is_nan_at nan_answers ≡ true
-  -- 1.5^2; and a pair with a NaN
-  pub past_rule : PastRule (f32 0x3f000000) (f32 0x40000000)
+  -- one of each route past `rule`: `whole`, `edge`, `fast`, `slow`; and a pair with a NaN
+  pub past_rule : PastRule (f32 0x3f000000) (f32 0x40000000) × PastRule (f32 0x21800000) (f32 0x5d800000)
+      × PastRule (f32 0xb951b717) (f32 0x43fa0000) × PastRule (f32 0x3f800000) (f32 0xc3150000)
   pub not_past_rule : is_rule (f32 0x3f000000) (f32 0x7fc00000) ≡ true
-  -- one pair, and one whose k is past 150
+  -- a subnormal answer; one whose k is past 150; next to a midpoint with y above 0; a loss of 0.6 % with y above 0
   pub on_slow : OnSlow (f32 0x3f800000) (f32 0xc3150000) × OnSlow (f32 0x25bfffff) (f32 0xdcce6666)
+      × OnSlow (f32 0x3f800001) (f32 0x41880000) × OnSlow (f32 0xbbd201d8) (f32 0x4656a9bb)
   -- the table path and its two indices
   pub tabled : Tabled (f32 0x3f800000) (f32 0x3f000000)
   pub has_inverse : HasInverse one

@@ -42,8 +42,7 @@ impl Route {
     }
 }
 
-// The answer: one of five routes, each carrying its f32. That it is an enum of five cases is a rule of
-// the project.
+// The answer: one of five routes, each carrying its f32. Document 01 asks for an enum of five cases.
 #[derive(Clone, Copy)]
 pub enum Answer {
     Rule(f32),
@@ -86,8 +85,8 @@ impl Answer {
 }
 
 // (1 + x)^y, for the f32s x and y of the patterns nx and ny. They are two parameters, here and in what
-// is called with them, as in the source and as C hands them: of a struct of two such numbers nothing
-// could be said.
+// is called with them, as in the source and as C hands them: every two patterns are a pair, so that a
+// struct of them would hold no fact.
 #[tactic(auto, unfolding(crate::specs::Answer::outcome, crate::specs::Route::compound))]
 pub fn f_compoundf(nx: u32, ny: u32) -> Answer
     ensures { outcome result ≡ spec.compound (of_bits binary32 nx) (of_bits binary32 ny) }

@@ -55,7 +55,7 @@ impl MulAdd for DdFmla {
     }
 }
 
-// Near log2(1 + x) for the f64 of an f32 above -1. The source says that the relative error is below
+// Near log2(1 + x), for any f64 above -1. The source says that for an f32 the relative error is below
 // 2^-47.997; nothing here rests on that.
 pub fn compoundf_log2p1_fast(x: f64) -> f64
     requires { T (lt minus_one x) }

@@ -1,11 +1,10 @@
 -- Document 01, "Widening, narrowing, nearest whole". Each is fixed by its value for every pattern. Widening needs no
 -- definition: an f32 and the f64 of the same value are the same `Float`.
-use Rattle.std.specs.Prelude.{◌≡◌, ℕ, ◌-◌, ◌*◌, ◌^◌, ◌<◌, ◌≤◌, false, T, from_bits, to_bits, Float}
+use Rattle.std.specs.Prelude.{◌≡◌, ℕ, ◌-◌, ◌*◌, ◌^◌, ◌<◌, ◌≤◌, false, T, from_bits, Float}
 use Rattle.std.specs.Float.{nan, inf, fin, binary32, binary64}
 use Rattle.std.specs.Float.Ieee.{up, down, round}
 use Rattle.std.specs.Float.Ieee.Nearest.{closest}
 use Rattle.std.specs.Float.Ieee.Scale.{finite}
-use Rattle.floats.specs.Operations.{◌⊕◌, f64}
 
 -- "Narrowing f64 to f32 is nearest, ties to even, with subnormals and overflow to infinity": the exact value, rounded
 -- once to binary32
@@ -13,12 +12,6 @@ unfoldable pub narrowed : Float → Float
 narrowed nan = nan
 narrowed (inf s) = inf s
 narrowed (fin s m e) = round binary32 s (m * up e) (down e)
-
--- The pattern of the f64 of the pattern w plus 2^-97. It stands in no document; it is how a value below the normal
--- f32s is rounded. The last place of the sum is that of an f32 below 2^-126, so what the pattern has over that of
--- 2^-97 is the f32's (`low_pattern` in proofs/Laws/Narrow.antt).
-unfoldable pub subnormal_sum : ℕ → ℕ
-subnormal_sum w = to_bits binary64 (f64 w ⊕ f64 0x39e0000000000000)
 
 -- "Nearest f32 to a positive fraction, as in demand 3, is the same rule over whole numbers": to a / c
 unfoldable pub nearest_f32 : ℕ → ℕ → Float
@@ -35,12 +28,13 @@ FromEnd a c = (0 < c) × (infinite_from * c ≤ a)
 abbrev pub BelowEnd : ℕ → ℕ → Type 0
 BelowEnd a c = (0 < c) × (a < infinite_from * c)
 
--- Neither is empty: the end itself is one, and half of 1 below it the other, whose nearest f32 is the largest.
+-- Neither is empty, at the end or away from it: the end itself, 2^128 and a third of 2^200; half of 1 below the end,
+-- whose nearest f32 is the largest, 0 and a third.
 pub record NearestF32Ends : Type 0 where
   pub infinite : (a c : ℕ) → FromEnd a c → nearest_f32 a c ≡ inf false
   pub finite_below : (a c : ℕ) → BelowEnd a c → T (finite (nearest_f32 a c))
-  pub at_end : FromEnd infinite_from 1
-  pub next_to_end : BelowEnd (2 * infinite_from - 1) 2
+  pub from_end : FromEnd infinite_from 1 × FromEnd (2 ^ 128) 1 × FromEnd (2 ^ 200) 3
+  pub below_end : BelowEnd (2 * infinite_from - 1) 2 × BelowEnd 0 1 × BelowEnd 1 3
   pub largest : nearest_f32 (2 * infinite_from - 1) 2 ≡ from_bits binary32 0x7f7fffff
 
 -- "`round_ties_even` gives the nearest whole f64, ties to even, and keeps the sign of zero": the whole number nearest

@@ -2,7 +2,8 @@
 // worked out from the bits.
 ghost use Rattle.std.specs.Prelude.{◌≡◌, ◌≤◌, not, T, from_bits, is_nan, to_bits};
 ghost use Rattle.std.specs.Float.{binary32, binary64};
-ghost use Rattle.floats.specs.Narrowing.{narrowed, subnormal_sum, NearestF32Ends};
+ghost use Rattle.floats.specs.Narrowing.{narrowed, NearestF32Ends};
+ghost use Rattle.floats.specs.SubnormalSum.{subnormal_sum};
 
 // 2^-97, and its pattern.
 const OFFSET: f64 = f64::from_bits(OFFSET_BITS);
@@ -11,8 +12,8 @@ pub const OFFSET_BITS: u64 = 0x39e0_0000_0000_0000;
 
 // The nearest f32, ties to even, with subnormals, overflow to infinity and the sign of zero kept. A
 // NaN gives the NaN. `std::num::nearest_f64_to_f32_with_nan` has the same values, but finds the digits by
-// shifts, with branches on the size: with it whole exponents take 1.38 of the Rust's time, and their bar
-// is 0.9.
+// shifts, with branches on the size: with it whole exponents take 1.38 of the Rust's time, and they are to
+// take 0.9 at most.
 pub fn narrow(x: f64) -> f32
     ensures { result ≡ narrowed x }
 {
@@ -38,7 +39,7 @@ pub fn narrow_number(x: f64) -> f32
 // The pattern of the sum of 2^-97 and the f64 of the pattern m. The last place of an f64 from 2^-97 to
 // 2^-96 is 2^-149, and so is that of an f32 below 2^-126: for an m below 2^-126 the sum is rounded where
 // the f32 is, and its pattern less that of 2^-97 is the f32's.
-#[tactic(auto, unfolding(crate::specs::Narrowing::subnormal_sum))]
+#[tactic(auto, unfolding(crate::specs::SubnormalSum::subnormal_sum))]
 pub fn subnormal_sum(m: u64) -> u64
     requires { m ≤ 0x7ff0_0000_0000_0000 }
     ensures { result ≡ subnormal_sum m }

@@ -5,7 +5,8 @@ use Rattle.std.proofs.lemmas.Option.{cond_some}
 use lib.Ieee.{Float, binary32, binary64, is_nan, nan_bits, of_bits}
 use lib.Ieee.Bits.{nan_bits_is, of_bits-fits, of_bits-to_bits}
 use Rattle.floats.specs.Operations.{f64}
-use Rattle.floats.specs.Narrowing.{narrowed, subnormal_sum}
+use Rattle.floats.specs.Narrowing.{narrowed}
+use Rattle.floats.specs.SubnormalSum.{subnormal_sum}
 use Rattle.std.proofs.lemmas.Float.{not_nan_f64_bits}
 use Rattle.floats.proofs.Laws.Narrow.{low_finite, low_sum_over, low_pattern, pattern_fits, pattern_number, narrowed_fits}
 use Rattle.floats.proofs.Laws.Sums.{sum_patterns_mono}

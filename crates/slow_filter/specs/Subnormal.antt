@@ -3,7 +3,7 @@
 use Rattle.std.specs.Prelude.{ℕ, ◌+◌, ◌-◌, ◌^◌, cond, eqb, Option, Some, None, Float}
 use Rattle.std.specs.Float.{binary32}
 use Rattle.std.specs.Float.Ieee.{of_bits}
-use Rattle.floats.specs.Narrowing.{subnormal_sum}
+use Rattle.floats.specs.SubnormalSum.{subnormal_sum}
 
 -- the pattern w, scaled: where 2^25 less and 2^25 more are rounded to one f32, it is the answer; else nothing is sure
 unfoldable pub rounded_subnormal : ℕ → Option Float

@@ -87,7 +87,7 @@ next_exp2 q z i =
     let q' = quick_mult q z in
     with_term q' (from_exact_add (q2 i) q'.hi) (q2 (i + 1))
 
--- the terms of degree 4 and above, in f64: z is the source's z.hi
+-- the terms of degree 4 and above, divided by z^4, in f64: z is the source's z.hi
 unfoldable pub highest_exp2 : Float → DoubleDouble
 highest_exp2 z =
     let h2 = z ⊗ z in

@@ -145,7 +145,7 @@ fn next_exp2(q: DoubleDouble, z: DoubleDouble, i: u64) -> DoubleDouble
     with_term(m, t, PolyQ2::at(i + 1))
 }
 
-// The terms of `compoundf_exp2_poly2` of degree 4 and above.
+// The terms of `compoundf_exp2_poly2` of degree 4 and above, divided by z^4.
 #[tactic(auto, unfolding(crate::specs::Slow::highest_exp2))]
 fn highest_exp2(z: f64) -> DoubleDouble
     ensures { result ≡ spec.highest_exp2 z }

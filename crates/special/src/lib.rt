@@ -29,8 +29,8 @@ const INF: f32 = f32::INFINITY;
 // sign and the rank: +0, above 0 and finite, +infinity, NaN; -0, between -1 and 0, -1, below -1 or NaN.
 // For each of them the arms have the eight classes of y: +0, above 0 and finite, +infinity, NaN; -0,
 // below 0 and finite, -infinity, NaN. Where no row of the table fits it is a NaN, but `f_compoundf`
-// does not ask then. That it is a match over numbered classes is a rule of the project; with an arm for
-// each pair it is one lookup.
+// does not ask then. Document 01 asks for a match over numbered classes; with an arm for each pair it is
+// one lookup.
 pub fn as_compoundf_special(nx: u32, ny: u32) -> f32
     ensures { result ≡ special (of_bits binary32 nx) (of_bits binary32 ny) }
 {

@@ -6,7 +6,7 @@ use mathlib.Core.Logic.{inl, inr}
 use mathlib.Core.Bool.{Bool, true, false, not, ◌&&◌, beq}
 use mathlib.Core.List.{List}
 use Prim.Native.Nat.{ℕ, zero, suc, ◌-◌, ◌*◌, ◌^◌, ◌<◌}
-use native.Mathlib.Nat.{eq-or-lt_of_le, le_of_suc-le-suc, not-suc-le-zero}
+use native.Mathlib.Nat.{zero-add, eq-or-lt_of_le, le_of_suc-le-suc, not-suc-le-zero}
 use lib.Dec.{T, eqb, eqb→eq}
 use lib.ListN.{get_or}
 use lib.Ieee.{Float, nan, inf, fin, binary64, up, down, fits, nan_bits, to_bits, of_bits}
@@ -14,10 +14,11 @@ use lib.Ieee.Bits.{of_bits-to_bits}
 use lib.Ieee.Exact.{HasValue}
 use lib.Ieee.Fits.{and_l, and_r}
 use Rattle.std.specs.Prelude.{IsTrue, length}
-use Rattle.std.specs.List.{list_all}
+use Rattle.std.specs.List.{list_all, All, range_with_len}
 use Rattle.std.proofs.lemmas.Bool.{and_parts, leb-true}
 use Rattle.std.proofs.lemmas.Float.{not_nan_f64_bits}
-use Rattle.std.proofs.lemmas.List.Elements.{All-get_or}
+use Rattle.std.proofs.lemmas.List.Elements.{All-get_or, All-from_get_or}
+use Rattle.std.proofs.lemmas.List.FromFn.{length-range_with_len, get_or-range_with_len}
 use Rattle.std.proofs.lemmas.List.Sums.{AllPass-from_list_all}
 use Rattle.tables.specs.Tables.{entry, is_number, is_pair, log2p1_scale, compoundf_exp2_t}
 use Rattle.tables.specs.Rules.{scale_value, IsExp2T, Rules}
@@ -79,9 +80,20 @@ unfolding entry compoundf_exp2_t of_bits
 exp2t_rule = by_test 33 (entry compoundf_exp2_t) _ _ _ tt
 
 -- ---- both
+-- what holds of each number below n holds of all of them
+over_all : (n : ℕ) (P : ℕ → Type 0) → ((i : ℕ) → i < n → P i) → All P (range_with_len 0 n)
+over_all n P holds =
+    All-from_get_or P (range_with_len 0 n) 0
+    (λ i h. let k : i < n = rw length-range_with_len at h in rw (get_or-range_with_len 0 n i 0 k, zero-add) (holds i k))
+
 pub rules : Rules
 unfolding log2p1_scale compoundf_exp2_t
-rules = record { scale = scale_rule; scale_length = refl; exp2_t = exp2t_rule; exp2_t_length = refl }
+rules = record {
+  scale = over_all 158 (λ i. entry log2p1_scale i ≡ scale_value i) scale_rule;
+  scale_length = refl;
+  exp2_t = over_all 33 (λ i. IsExp2T i (entry compoundf_exp2_t i)) exp2t_rule;
+  exp2_t_length = refl;
+}
 
 -- ---- all tables
 -- no pattern is a NaN's, so that each is read as it stands

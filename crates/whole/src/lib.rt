@@ -39,7 +39,7 @@ fn turn_factor(s: f64, n: u32) -> f64
 
 // s to the n-th power, for n up to 16: s is squared along the bits of n. The source goes on while a
 // bit is left; here the turns are counted, and those past the last bit multiply by 1. With a branch on
-// the bits whole exponents take 35 % longer, and more than their bar of nine tenths of the Rust's time.
+// the bits whole exponents take 35 % longer, and then more than nine tenths of the Rust's time.
 fn whole_power(s: f64, n: u32) -> f64
     requires { T (not (is_nan s)) }
     ensures { result ≡ spec.whole_power s n }

@@ -114,7 +114,7 @@ unfolding nearest_f32 round of_bits
 nearest_f32_ends = record {
   infinite = λ a c h. nearest_f32_infinite a c h.0 h.1;
   finite_below = λ a c h. nearest_f32_finite a c h.0 h.1;
-  at_end = (lit< tt, lit≤ tt);
-  next_to_end = (lit< tt, lit< tt);
+  from_end = ((lit< tt, lit≤ tt), (lit< tt, lit≤ tt), (lit< tt, lit≤ tt));
+  below_end = ((lit< tt, lit< tt), (lit< tt, lit< tt), (lit< tt, lit< tt));
   largest = refl;
 }

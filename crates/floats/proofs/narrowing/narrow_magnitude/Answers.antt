@@ -3,7 +3,8 @@ use Rattle.std.proofs.Common.{◌≡◌, ℕ, ◌+◌, ◌-◌, ◌*◌, ◌/◌
 use lib.Ieee.{binary32, binary64, to_bits, of_bits}
 use lib.Ieee.Bits.{to_bits-lt}
 use lib.Ieee.Fits.{add-fits}
-use Rattle.floats.specs.Narrowing.{narrowed, subnormal_sum}
+use Rattle.floats.specs.Narrowing.{narrowed}
+use Rattle.floats.specs.SubnormalSum.{subnormal_sum}
 use Rattle.floats.proofs.Laws.Narrow.{low_finite, low_pattern, low_sum_over, normal_magnitude}
 use Rattle.floats.proofs.narrowing.narrow_magnitude.Goals as goal
 
