@@ -5,7 +5,7 @@ use Rattle.std.proofs.lemmas.Bool.Decides.{nat_tests}
 use Rattle.std.proofs.lemmas.List.Elements.{All-head, All-tail}
 use Rattle.std.specs.Prelude.{Option, Some, None, Result, Ok, Err, OnOk}
 use Rattle.std.specs.Io.KnownBytes.{Appends, Consumes, IsAtEnd}
-use Rattle.std.specs.declared.io.Error.{Error}
+use Rattle.fade.specs.declared.stream.NotDone.{NotDone}
 use mathlib.Core.Logic.{⊎_elim}
 use Rattle.scan.specs.Complete.{lines, rest, line_feeds}
 use Rattle.scan.proofs.Cutting.{line_feeds_append}
@@ -62,11 +62,11 @@ not_refused cs n result r few =
     refused_many r.before r.last (result.each_call r.before r.last [] r.calls_are) r.last_refused (omega arith)
 
 -- what known bytes tell
-all_read : (bytes : List ℕ) (left' : Option (List ℕ)) (t : List ℕ) → Consumes (Some bytes) left' t → IsAtEnd left' → (left' ≡ Some []) × (t ≡ bytes)
+all_read : (bytes : List ℕ) (input' : Option (List ℕ)) (t : List ℕ) → Consumes (Some bytes) input' t → IsAtEnd input' → (input' ≡ Some []) × (t ≡ bytes)
 all_read bytes None t read end = absurd read
 all_read bytes (Some x) t read end = (ap Some end, sym (read ∙ rw end (append-nil t)))
 
-some_read : (bytes : List ℕ) (left' : Option (List ℕ)) (t : List ℕ) → Consumes (Some bytes) left' t → line_feeds t ≤ line_feeds bytes
+some_read : (bytes : List ℕ) (input' : Option (List ℕ)) (t : List ℕ) → Consumes (Some bytes) input' t → line_feeds t ≤ line_feeds bytes
 some_read bytes None t read = absurd read
 some_read bytes (Some x) t read = omega (arith, ap line_feeds read, line_feeds_append t x)
 
@@ -85,33 +85,33 @@ last_is s end bytes e n =
     rw (number, e) refl
 
 -- a run whose last lines were printed
-ended : (left left' held held' answers_held : Option (List ℕ)) (s : State) (cs : List Call) (end : End) (bytes before : List ℕ) → left ≡ Some bytes → held ≡ Some before → line_feeds bytes ≤ most_lines → Run fresh s left left' held answers_held cs (Ok end) → Appends answers_held held' (last_lines s end) → (left' ≡ Some []) × (held' ≡ Some (before ++ whole_output bytes))
+ended : (input input' output output' after_answers : Option (List ℕ)) (s : State) (cs : List Call) (end : End) (bytes before : List ℕ) → input ≡ Some bytes → output ≡ Some before → line_feeds bytes ≤ most_lines → Run fresh s input input' output after_answers cs (Ok end) → Appends after_answers output' (last_lines s end) → (input' ≡ Some []) × (output' ≡ Some (before ++ whole_output bytes))
 unfolding EverySeries
-ended left left' held held' answers_held s cs end bytes before e f few run printed =
+ended input input' output output' after_answers s cs end bytes before e f few run printed =
     let result = every_series cs run.made in
-    let read : Consumes (Some bytes) left' (pieces_of cs) = rw e at run.read in
-    let written : Appends (Some before) answers_held (wrote_all cs) = rw f at run.written in
+    let read : Consumes (Some bytes) input' (pieces_of cs) = rw e at run.read in
+    let written : Appends (Some before) after_answers (wrote_all cs) = rw f at run.written in
     ⊎_elim
     (λ i.
-    let (nothing, pieces) = all_read bytes left' (pieces_of cs) read i.nothing_left in
+    let (nothing, pieces) = all_read bytes input' (pieces_of cs) read i.nothing_left in
     let all : accepted cs ≡ bytes = all_accepted cs i.all_accepted ∙ pieces in
     let state : s ≡ state_after_input bytes = run.state_is ∙ state_is cs result ∙ ap state_after_input all in
     let number : end_number end ≡ close_number (closed s) = i.number_is ∙ ap (λ s. close_number (closed s)) (sym run.state_is) in
     let answers : wrote_all cs ≡ answer_lines (lines bytes) = result.bytes_written ∙ ap (λ l. answer_lines (lines l)) all in
-    (nothing, grown before answers_held held' (wrote_all cs) (last_lines s end) written printed ∙ ap (λ t. Some (before ++ t)) (rw (answers, last_is s end bytes state number) refl)))
-    (λ i. absurd (not_refused cs (end_number end) result i (le_trans (some_read bytes left' (pieces_of cs) read) few)))
+    (nothing, grown before after_answers output' (wrote_all cs) (last_lines s end) written printed ∙ ap (λ t. Some (before ++ t)) (rw (answers, last_is s end bytes state number) refl)))
+    (λ i. absurd (not_refused cs (end_number end) result i (le_trans (some_read bytes input' (pieces_of cs) read) few)))
     run.after
 
-pub prints_all : (left left' held held' : Option (List ℕ)) (r : Result End Failure) → WholeRun left left' held held' r → PrintsAll left left' held held' r
-prints_all left left' held held' r w bytes before e f few = by w.ended w.run w.then
+pub prints_all : (input input' output output' : Option (List ℕ)) (r : Result End Failure) → WholeRun input input' output output' r → PrintsAll input input' output output' r
+prints_all input input' output output' r w bytes before e f few = by w.ended w.run w.then
   where
-    by : (ended : Result End Failure) → Run fresh w.state left left' held w.answers_held w.calls ended → AfterRun ended w.state w.answers_held held' r → OnOk r ((left' ≡ Some []) × (held' ≡ Some (before ++ whole_output bytes)))
+    by : (ended : Result End Failure) → Run fresh w.state input input' output w.after_answers w.calls ended → AfterRun ended w.state w.after_answers output' r → OnOk r ((input' ≡ Some []) × (output' ≡ Some (before ++ whole_output bytes)))
     by (Err failure) run (fails, same) = rw fails tt
-    by (Ok end) run last = told_so last.told.0 last.told.1.0
+    by (Ok end) run last = by_write last.result_is.0 last.result_is.1.0
       where
-        ends : r ≡ Ok end → (left' ≡ Some []) × (held' ≡ Some (before ++ whole_output bytes))
-        ends is = ended left left' held held' w.answers_held w.state w.calls end bytes before e f few run (rw is at last.written)
+        ends : r ≡ Ok end → (input' ≡ Some []) × (output' ≡ Some (before ++ whole_output bytes))
+        ends is = ended input input' output output' w.after_answers w.state w.calls end bytes before e f few run (rw is at last.written)
 
-        told_so : (written : Result Unit Error) → r ≡ if_written end written → OnOk r ((left' ≡ Some []) × (held' ≡ Some (before ++ whole_output bytes)))
-        told_so (Ok u) is = rw is (ends is)
-        told_so (Err failed) is = rw is tt
+        by_write : (written : Result Unit NotDone) → r ≡ if_written end written → OnOk r ((input' ≡ Some []) × (output' ≡ Some (before ++ whole_output bytes)))
+        by_write (Ok u) is = rw is (ends is)
+        by_write (Err failed) is = rw is tt

@@ -1,11 +1,10 @@
--- Document 01, "One pair, one answer": what the batch program does between what it reads and what it prints. `left`
--- is what the input has left and `held` what the output holds: the bytes where the reader or the writer says them, as
--- one over memory does, and None where it does not, as standard input and output. With a prime they are as they stand
--- afterwards. The same code runs over both.
+-- Document 01, "One pair, one answer": what the batch program does between what it reads and what it prints. `input`
+-- is what the input still has and `output` what the output holds: `Some` bytes where these are known, as over memory,
+-- and `None` over standard input and output. With a prime they are as they stand afterwards. The same code runs over
+-- both.
 use Rattle.std.specs.Prelude.{ℕ, zero, suc, ◌≡◌, ◌<◌, ◌≤◌, true, ◌⊎◌, List, [], ◌∷◌, ◌++◌}
 use Rattle.std.specs.Prelude.{Option, None, Some, Result, Ok, Err}
 use Rattle.std.specs.Prelude.{All, IfErr, OnOk, take, length}
-use Rattle.std.specs.declared.io.Error.{Error}
 use Rattle.std.specs.Io.KnownBytes.{Appends, Consumes, IsAtEnd}
 use Rattle.state.specs.declared.State.{State}
 use Rattle.batch.specs.declared.Refused.{Refused as Cause}
@@ -17,7 +16,8 @@ use Rattle.batch.specs.Feed.{verdict, fed, out_after, FeedEffect, closed, close_
 use Rattle.totals.specs.Totals.{totals, end_line}
 use Rattle.batch.specs.Input.{whole_output}
 use Rattle.batch.specs.Series.{Call, Calls, state_of, is_accepted, wrote_all}
-use Rattle.fade.specs.Stream.{Stands}
+use Rattle.fade.specs.Stream.{GivenUp, ReadAgain, WriteAgain}
+use Rattle.fade.specs.declared.stream.NotDone.{NotDone}
 use Rattle.fade.specs.declared.run.End.{End}
 use Rattle.fade.specs.declared.run.Failure.{Failure}
 use Rattle.fade.specs.declared.run.Failure.TheVariants.{NotRead, NotWritten, OutOfReads}
@@ -48,9 +48,9 @@ abbrev pub Next : Type 0
 Next = Result (Option End) Failure
 
 -- what comes after a write: what was to come, or nothing where not all was written
-abbrev pub if_written : {T : Type 0} → T → Result Unit Error → Result T Failure
+abbrev pub if_written : {T : Type 0} → T → Result Unit NotDone → Result T Failure
 if_written next (Ok u) = Ok next
-if_written next (Err e) = Err (NotWritten e)
+if_written next (Err why) = Err (NotWritten why)
 
 -- what comes after a piece was fed: "A feed refused with 6 ends the reading". 5 and 7 do not come.
 abbrev pub AfterFeed : Result ℕ Cause → Step → Type 0
@@ -73,8 +73,8 @@ pub record NothingFed (s : State) (out : List ℕ) (s' : State) (out' : List ℕ
 
 -- A turn after a read that answered `got`, by what it answered: the read failed, the input is at its end, or that
 -- many bytes at the front of l were read. After a failure nothing comes; at the end, the number of closing the state.
-abbrev pub AfterRead : Result ℕ Error → State → List ℕ → List ℕ → Result Step Failure → State → List ℕ → Type 0
-AfterRead (Err e) s l out r s' out' = NothingFed s out s' out' × (r ≡ Err (NotRead e))
+abbrev pub AfterRead : Result ℕ NotDone → State → List ℕ → List ℕ → Result Step Failure → State → List ℕ → Type 0
+AfterRead (Err why) s l out r s' out' = NothingFed s out s' out' × (r ≡ Err (NotRead why))
 AfterRead (Ok zero) s l out r s' out' =
     NothingFed s out s' out' × ((end : End) × ((r ≡ Ok (Stop end)) × (end_number end ≡ close_number (closed s))))
 AfterRead (Ok (suc k)) s l out r s' out' =
@@ -91,8 +91,8 @@ pieces_of (c ∷ cs) = c.piece ++ pieces_of cs
 
 -- the input ended: nothing is left of it, and the number is that of closing the state, "then `end=8` if a tail is
 -- unfinished"
-pub record AtInputEnd (left : Option (List ℕ)) (s : State) (cs : List Call) (n : ℕ) : Type 0 where
-  pub nothing_left : IsAtEnd left
+pub record AtInputEnd (input : Option (List ℕ)) (s : State) (cs : List Call) (n : ℕ) : Type 0 where
+  pub nothing_left : IsAtEnd input
   pub all_accepted : AllAccepted cs
   pub number_is : n ≡ close_number (closed (state_of s cs))
 
@@ -105,36 +105,38 @@ pub record AtRefusal (cs : List Call) (n : ℕ) : Type 0 where
   pub last_refused : last.returned.verdict ≡ Err TooManyLines
   pub number_is : n ≡ 6
 
--- What is known of the calls from the state s, by what comes after them; `left` is what the input has left. Nothing
+-- What is known of the calls from the state s, by what comes after them; `input` is what the input still has. Nothing
 -- comes only after a read that failed, a write that failed, or the last read that can be counted.
 abbrev pub After : Next → Option (List ℕ) → State → List Call → Type 0
-After (Ok None) left s cs = AllAccepted cs
-After (Ok (Some end)) left s cs = AtInputEnd left s cs (end_number end) ⊎ AtRefusal cs (end_number end)
-After (Err (NotRead e)) left s cs = AllAccepted cs × Stands e
-After (Err (NotWritten e)) left s cs = AllAccepted cs × Stands e
-After (Err OutOfReads) left s cs = AllAccepted cs × (length cs ≡ most_reads)
+After (Ok None) input s cs = AllAccepted cs
+After (Ok (Some end)) input s cs = AtInputEnd input s cs (end_number end) ⊎ AtRefusal cs (end_number end)
+After (Err (NotRead why)) input s cs = AllAccepted cs × GivenUp ReadAgain why
+After (Err (NotWritten why)) input s cs = AllAccepted cs × GivenUp WriteAgain why
+After (Err OutOfReads) input s cs = AllAccepted cs × (length cs ≡ most_reads)
 
 -- What was written of a text: all of it, or where a write failed a front of it
 abbrev pub Written : {T : Type 0} → Result T Failure → Option (List ℕ) → Option (List ℕ) → List ℕ → Type 0
-Written (Ok next) held held' text = Appends held held' text
-Written (Err (NotRead e)) held held' text = Appends held held' text
-Written (Err (NotWritten e)) held held' text = (k : ℕ) × Appends held held' (take k text)
-Written (Err OutOfReads) held held' text = Appends held held' text
+Written (Ok next) output output' text = Appends output output' text
+Written (Err (NotRead why)) output output' text = Appends output output' text
+Written (Err (NotWritten why)) output output' text = (k : ℕ) × Appends output output' (take k text)
+Written (Err OutOfReads) output output' text = Appends output output' text
 
 -- Turns from the state s to the state s'. There is a list of calls of feed, as in demand 3, from the one to the other.
--- Their pieces are what was read: the input had `left` and then `left'`. What they wrote was printed: the output had
--- `held` and then `held'`.
-pub record Turns (s s' : State) (left left' held held' : Option (List ℕ)) (cs : List Call) (next : Next) : Type 0 where
+-- Their pieces are what was read: the input had `input` and then `input'`. What they wrote was printed: the output had
+-- `output` and then `output'`.
+pub record Turns (s s' : State) (input input' output output' : Option (List ℕ)) (cs : List Call) (next : Next)
+    : Type 0 where
   pub made : Calls FeedEffect s cs
   pub state_is : s' ≡ state_of s cs
   pub pieces : All IsRead cs
-  pub read : Consumes left left' (pieces_of cs)
-  pub written : Written next held held' (wrote_all cs)
-  pub after : After next left' s cs
+  pub read : Consumes input input' (pieces_of cs)
+  pub written : Written next output output' (wrote_all cs)
+  pub after : After next input' s cs
 
 -- one turn: it fed one piece at most, and just one where another read comes
-pub record Turn (s s' : State) (left left' held held' : Option (List ℕ)) (cs : List Call) (next : Next) : Type 0 where
-  pub turns : Turns s s' left left' held held' cs next
+pub record Turn (s s' : State) (input input' output output' : Option (List ℕ)) (cs : List Call) (next : Next)
+    : Type 0 where
+  pub turns : Turns s s' input input' output output' cs next
   pub at_most_one : length cs ≤ 1
   pub one : next ≡ Ok None → length cs ≡ 1
 
@@ -147,32 +149,32 @@ end_or_nothing (Err failure) = Err failure
 abbrev pub Run :
     State → State → Option (List ℕ) → Option (List ℕ) → Option (List ℕ) → Option (List ℕ) → List Call
     → Result End Failure → Type 0
-Run s s' left left' held held' cs r = Turns s s' left left' held held' cs (end_or_nothing r)
+Run s s' input input' output output' cs r = Turns s s' input input' output output' cs (end_or_nothing r)
 
 -- What is printed after the answer lines: "then one line of totals, then `end=8` if a tail is unfinished", and "after
 -- the totals it then prints `end=6` alone".
 abbrev pub last_lines : State → End → List ℕ
 last_lines s end = totals s ++ end_line (end_number end)
 
--- Printing the last lines of the state s: it is told that the run ended so, or that not all was written.
-pub record LastLines (s : State) (end : End) (held held' : Option (List ℕ)) (r : Result End Failure) : Type 0 where
-  pub told : (written : Result Unit Error) × ((r ≡ if_written end written) × IfErr written Stands)
-  pub written : Written r held held' (last_lines s end)
+-- Printing the last lines of the state s: the result says that the run ended so, or that not all was written.
+pub record LastLines (s : State) (end : End) (output output' : Option (List ℕ)) (r : Result End Failure) : Type 0 where
+  pub result_is : (written : Result Unit NotDone) × ((r ≡ if_written end written) × IfErr written (GivenUp WriteAgain))
+  pub written : Written r output output' (last_lines s end)
 
 -- What follows the last turn: the last lines after an end, and nothing after a failure.
 abbrev pub AfterRun : Result End Failure → State → Option (List ℕ) → Option (List ℕ) → Result End Failure → Type 0
-AfterRun (Ok end) s held held' r = LastLines s end held held' r
-AfterRun (Err failure) s held held' r = (r ≡ Err failure) × (held' ≡ held)
+AfterRun (Ok end) s output output' r = LastLines s end output output' r
+AfterRun (Err failure) s output output' r = (r ≡ Err failure) × (output' ≡ output)
 
 -- A whole run: its turns begin with a fresh state, and what follows them are the last lines of the state that they
 -- come to. Demand 3 says what the calls wrote and what that state holds.
-pub record WholeRun (left left' held held' : Option (List ℕ)) (r : Result End Failure) : Type 0 where
+pub record WholeRun (input input' output output' : Option (List ℕ)) (r : Result End Failure) : Type 0 where
   pub calls : List Call
   pub state : State
-  pub answers_held : Option (List ℕ)
+  pub after_answers : Option (List ℕ)
   pub ended : Result End Failure
-  pub run : Run fresh state left left' held answers_held calls ended
-  pub then : AfterRun ended state answers_held held' r
+  pub run : Run fresh state input input' output after_answers calls ended
+  pub then : AfterRun ended state after_answers output' r
 
 -- the exit status: the end's number, 0 after a whole run, and 1 after a failure
 abbrev pub status : Result End Failure → ℕ
@@ -183,6 +185,6 @@ status (Err failure) = 1
 -- did not fail, nothing is left of the input, and the output has grown by what the program prints for it.
 abbrev pub PrintsAll :
     Option (List ℕ) → Option (List ℕ) → Option (List ℕ) → Option (List ℕ) → Result End Failure → Type 0
-PrintsAll left left' held held' r =
-    (bytes before : List ℕ) → left ≡ Some bytes → held ≡ Some before → line_feeds bytes ≤ most_lines
-    → OnOk r ((left' ≡ Some []) × (held' ≡ Some (before ++ whole_output bytes)))
+PrintsAll input input' output output' r =
+    (bytes before : List ℕ) → input ≡ Some bytes → output ≡ Some before → line_feeds bytes ≤ most_lines
+    → OnOk r ((input' ≡ Some []) × (output' ≡ Some (before ++ whole_output bytes)))

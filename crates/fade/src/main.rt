@@ -10,13 +10,13 @@ mod tell;
 
 use run::{answer_all, exit_code, print};
 use std::process::ExitCode;
-use task::{Task, asked};
+use task::{Task, requested_task};
 use tell::{HELP, USAGE, VERSION, tell};
 
 fn main(rt: HostRuntime) -> ExitCode {
     let output = &mut rt.stdout();
-    let ended = match asked(&rt) {
-        Task::Answer => answer_all(&rt, &mut rt.stdin(), output),
+    let ended = match requested_task(&rt) {
+        Task::AnswerInput => answer_all(&rt, &mut rt.stdin(), output),
         Task::Help => print(&rt, output, HELP),
         Task::Version => print(&rt, output, VERSION),
         Task::Usage => {

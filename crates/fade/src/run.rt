@@ -12,22 +12,21 @@ ghost use Rattle.batch.specs.Series.{Call};
 ghost use Rattle.fade.specs.Run.{end_number, if_written, PieceTurn, AfterRead, Turn, Run};
 ghost use Rattle.fade.specs.Run.{LastLines, WholeRun, PrintsAll, status};
 
-use crate::stream::{read_some, write_whole};
+use crate::stream::{NotDone, read_some, write_whole};
 use batch::{ANSWER_GROWTH, NotClosed, OVER_LONG, Refused, State, TOTALS};
-use std::io;
 use std::io::{Read, Write};
 use std::process::ExitCode;
 use std::rt::Clock;
 
 // The most bytes that are read at once.
-const PIECE: usize = 8192;
+const MOST_PIECE: usize = 8192;
 
 // Room for the answers to any piece: they have at most as many bytes as the tail and the piece, and
 // some more for each line feed.
-const ANSWERS: usize = OVER_LONG as usize + PIECE + ANSWER_GROWTH * PIECE;
+const ANSWERS: usize = OVER_LONG as usize + MOST_PIECE + ANSWER_GROWTH * MOST_PIECE;
 
 // The most reads: no run comes to so many. A loop has to end, so they are counted.
-const READS: u64 = 0xffff_ffff_ffff_ffff;
+const MOST_READS: u64 = 0xffff_ffff_ffff_ffff;
 
 // How the reading ended, with the number that is printed after the totals; for 0 none is.
 #[derive(Clone, Copy)]
@@ -48,8 +47,8 @@ impl End {
 // Why no totals come.
 #[derive(Clone, Copy)]
 pub(crate) enum Failure {
-    NotRead(io::Error),
-    NotWritten(io::Error),
+    NotRead(NotDone),
+    NotWritten(NotDone),
     OutOfReads,
 }
 
@@ -66,7 +65,7 @@ enum Step {
 #[derive(Drop)]
 struct Workspace {
     state: State,
-    piece: [u8; PIECE],
+    piece: [u8; MOST_PIECE],
     out: [u8; ANSWERS],
     ghost not_broken: { broken state ≡ false },
 }
@@ -79,7 +78,7 @@ impl Workspace {
     {
         Workspace {
             state: State::fresh(),
-            piece: [0; PIECE],
+            piece: [0; MOST_PIECE],
             out: [0; ANSWERS],
         }
     }
@@ -95,7 +94,7 @@ impl Workspace {
             (R.remaining input.old) (R.remaining input.new) (W.contents output.old) (W.contents output.new)
             calls result }
     {
-        for _reads in 0..READS {
+        for _reads in 0..MOST_READS {
             if let Some(end) = self.take_turn(rt, input, output)? {
                 return Ok(end);
             }
@@ -122,14 +121,14 @@ impl Workspace {
     }
 
     // After a read that answered `got`: answers what was read to the front of the piece.
-    fn after_read(&mut self, got: io::Result<usize>) -> Result<Step, Failure>
+    fn after_read(&mut self, got: Result<usize, NotDone>) -> Result<Step, Failure>
         ensures turn { AfterRead got self.old.state self.old.piece self.old.out result self.new.state self.new.out }
         ensures piece_kept { self.new.piece ≡ self.old.piece }
     {
         match got {
             Ok(0) => Ok(Step::Stop(self.at_end())),
-            Ok(n) => Ok(self.answer_piece(n.min(PIECE))),
-            Err(error) => Err(Failure::NotRead(error)),
+            Ok(n) => Ok(self.answer_piece(n.min(MOST_PIECE))),
+            Err(why) => Err(Failure::NotRead(why)),
         }
     }
 
@@ -148,7 +147,7 @@ impl Workspace {
     // not broken and the output has room for the answers to any piece.
     #[tactic(auto, using(crate::proofs::Feeds::feeds_go_on))]
     fn answer_piece(&mut self, n: usize) -> Step
-        requires { n ≤ PIECE }
+        requires { n ≤ MOST_PIECE }
         ensures turn { PieceTurn self.old.state (take n self.old.piece) self.old.out
             result self.new.state self.new.out }
         ensures piece_kept { self.new.piece ≡ self.old.piece }
@@ -164,12 +163,12 @@ impl Workspace {
 }
 
 // What comes after a write: what was to come, or nothing where not all was written.
-fn if_written<T: Copy>(next: T, written: io::Result<()>) -> Result<T, Failure>
+fn if_written<T: Copy>(next: T, written: Result<(), NotDone>) -> Result<T, Failure>
     ensures { result ≡ if_written next written }
 {
     match written {
         Ok(()) => Ok(next),
-        Err(error) => Err(Failure::NotWritten(error)),
+        Err(why) => Err(Failure::NotWritten(why)),
     }
 }
 

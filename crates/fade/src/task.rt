@@ -8,7 +8,7 @@ use std::{env, io};
 // What the program is to do.
 #[derive(Clone, Copy)]
 pub(crate) enum Task {
-    Answer,
+    AnswerInput,
     Help,
     Version,
     Usage,
@@ -19,7 +19,7 @@ fn task_of(args: &[String]) -> Task
     ensures { result ≡ task_of (map string_bytes args.now) }
 {
     match args {
-        [] => Task::Answer,
+        [] => Task::AnswerInput,
         [arg] => match arg.as_str() {
             "--help" => Task::Help,
             "--version" => Task::Version,
@@ -30,7 +30,7 @@ fn task_of(args: &[String]) -> Task
 }
 
 // What the arguments of this run ask for. One that is no text asks for nothing that is known.
-pub(crate) fn asked<R: Env + AllocGlobal>(rt: &R) -> Task {
+pub(crate) fn requested_task<R: Env + AllocGlobal>(rt: &R) -> Task {
     match arguments(rt) {
         Ok(args) => task_of(args.as_slice()),
         Err(_) => Task::Usage,

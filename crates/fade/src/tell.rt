@@ -1,6 +1,6 @@
 // The texts that are no answers.
 use crate::run::Failure;
-use std::io;
+use crate::stream::NotDone;
 use std::io::{Cursor, ErrorKind, Write};
 
 // For `--help`.
@@ -38,19 +38,13 @@ pub(crate) const USAGE: &str =
 // Says on standard error why no totals came. Where nobody reads the output any more, nothing is said.
 pub(crate) fn tell(rt: &impl Eprint, failure: Failure) {
     match failure {
-        Failure::NotRead(error) => tell_error(
+        Failure::NotRead(why) => tell_cause(
             rt,
             "fade: standard input cannot be read; no totals",
-            error,
+            why,
         ),
-        Failure::NotWritten(error) if error.kind() == ErrorKind::BrokenPipe => {}
-        Failure::NotWritten(error) => {
-            tell_error(
-                rt,
-                "fade: standard output cannot be written; it is not whole",
-                error,
-            )
-        }
+        Failure::NotWritten(NotDone::Failed(error)) if error.kind() == ErrorKind::BrokenPipe => {}
+        Failure::NotWritten(why) => tell_cause(rt, "fade: the output was cut short", why),
         Failure::OutOfReads => {
             let _ = rt.eprintln("fade: too many reads; no totals");
         }
@@ -58,7 +52,11 @@ pub(crate) fn tell(rt: &impl Eprint, failure: Failure) {
 }
 
 // Writes a line to standard error: what failed, a colon and the error's words, without its number.
-fn tell_error(rt: &impl Eprint, what: &str, error: io::Error) {
+fn tell_cause(rt: &impl Eprint, what: &str, why: NotDone) {
+    let NotDone::Failed(error) = why else {
+        let _ = eprintln!(rt; "{what}: too many tries");
+        return;
+    };
     let mut text = Cursor::new([0u8; 128]);
     let _ = write!(text, "{error}");
     let shown = str::from_utf8(text.get_ref()).unwrap_or("");

@@ -9,7 +9,7 @@ returns-clause-prints_all g c =
     prints_all _ _ _ _ _ (record {
       calls = calls;
       state = c.answer_input.new.self.state;
-      answers_held = g.W.Write.contents c.answer_input.new.output;
+      after_answers = g.W.Write.contents c.answer_input.new.output;
       ended = Ok c.in_ok-end.end;
       run = rw (c.new-workspace.ensures, c.in_ok-end.was) at turns;
       then = c.print_last_lines.ensures;

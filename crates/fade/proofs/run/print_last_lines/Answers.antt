@@ -11,6 +11,6 @@ unfolding put
 returns g c =
     let text : take c.write_totals-n.result c.write_totals-n.new.out ≡ totals c.args.state ++ end_line c.number.result = grind (arith, common_steps) in
     record {
-      told = (c.write_whole.result, (c.if_written.ensures, c.write_whole.ensures.stands));
+      result_is = (c.write_whole.result, (c.if_written.ensures, c.write_whole.ensures.given_up));
       written = rw (c.if_written.ensures, ← c.number.ensures, ← text) (if_written_all _ c.write_whole.result _ _ _ c.write_whole.ensures.front c.write_whole.ensures.whole);
     }

@@ -3,13 +3,13 @@ use Rattle.std.proofs.Common.{◌≡◌, ℕ, ◌<◌, ◌≤◌, List, [], ◌�
 use Rattle.std.proofs.lemmas.Bool.{false_from_ne_true}
 use Rattle.std.proofs.lemmas.Slice.Eq.{bytes_eq-Decides}
 use Rattle.std.specs.Prelude.{bytes_eq, codes, string_bytes}
-use Rattle.fade.specs.declared.task.Task.TheVariants.{Answer, Usage}
+use Rattle.fade.specs.declared.task.Task.TheVariants.{AnswerInput, Usage}
 use Rattle.fade.specs.Task.{task_of}
 use Rattle.fade.proofs.task.task_of.Goals as goal
 use Rattle.fade.proofs.task.task_of.Goals.{After-as_str}
 
 module _ {X : Type 0} (bytes_of : X → List ℕ) where
-  none : (xs : List X) → length xs < 1 → Answer ≡ task_of (map bytes_of xs)
+  none : (xs : List X) → length xs < 1 → AnswerInput ≡ task_of (map bytes_of xs)
   none [] h = refl
   none (x ∷ xs) h = absurd (omega arith)
 
