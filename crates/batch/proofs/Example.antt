@@ -1,5 +1,5 @@
 -- The example of document 01, computed. Assumes nothing.
-use Rattle.std.proofs.Common.{ℕ, ◌≡◌, refl, ap, ◌∙◌, List, [], ◌∷◌}
+use Rattle.std.proofs.Common.{ℕ, ◌≡◌, refl, ap, ◌∙◌, List, [], ◌∷◌, ◌++◌, length, cond, eqb}
 use Rattle.std.specs.Prelude.{codes, Ok, Err, length, cond, replicate}
 use Rattle.std.specs.Float.{binary32, nan}
 use Rattle.std.specs.Float.Ieee.{of_bits, to_bits, is_nan}
@@ -15,13 +15,14 @@ use Rattle.std.proofs.Common.{◌<◌, ◌+◌, arith, eqb}
 use native.Mathlib.Nat.{mul-one}
 use Rattle.std.proofs.lemmas.Grind.{common_steps}
 use Rattle.std.proofs.lemmas.List.Folds.{sum_by-replicate}
-use Rattle.scan.specs.Complete.{line_feed, lines_from, rest_from, lines, line_feeds}
+use Rattle.scan.specs.Complete.{line_feed, lines_from, rest_from, lines, rest, line_feeds}
 use Rattle.state.specs.Holding.{fresh, tail_of, held_line, zeros, total, broken, unused}
 use Rattle.piece.specs.Tally.{tallies_with}
 use Rattle.piece.specs.Piece.{replies, joined_answers, answer_lines, added, state_after_piece, most_lines}
-use Rattle.totals.specs.Totals.{totals}
+use Rattle.totals.specs.Totals.{totals, end_line}
 use Rattle.batch.specs.declared.Refused.TheVariants.{TooManyLines}
 use Rattle.batch.specs.Feed.{verdict, closed}
+use Rattle.batch.specs.Input.{state_after_input}
 use Rattle.batch.specs.Example.{example_input, Example, EachAnswer}
 
 -- the two lines, and what they are answered with
@@ -54,9 +55,38 @@ state_is : state_after_piece fresh example_input ≡ record { tail = record { by
 unfolding state_after_piece tail_of held_line rest_from added line_feeds lines tallies_with
 state_is = rw two_replies refl
 
+input_state : state_after_input example_input ≡ record { tail = record { bytes = zeros; count = 0 }; lines = 2; tallies = record { rule = 0; whole = 1; edge = 0; fast = 0; slow = 0; bad = 1 } }
+unfolding tail_of rest rest_from tallies_with
+input_state = rw (two_replies, two_lines) refl
+
+nothing_left : rest example_input ≡ []
+unfolding rest rest_from
+nothing_left = refl
+
+-- the two answer lines, and the line of totals
+two_answers : List ℕ
+two_answers = codes "id=7 r=40100000 via=whole\n" ++ codes "bad=2\n"
+
+answers_are : answer_lines (lines example_input) ≡ two_answers
+unfolding answer_lines joined_answers answer_line ending answer_pattern word decimal hex digits places glyph of_bits to_bits is_nan two_answers
+answers_are = rw two_replies refl
+
+totals_line : List ℕ
+totals_line = codes "lines=2 rule=0 whole=1 edge=0 fast=0 slow=0 bad=1\n"
+
+totals_of_two : totals (record { tail = record { bytes = zeros; count = 0 }; lines = 2; tallies = record { rule = 0; whole = 1; edge = 0; fast = 0; slow = 0; bad = 1 } }) ≡ totals_line
+unfolding totals_line totals decimal digits places glyph
+totals_of_two = refl
+
+totals_are : totals (state_after_input example_input) ≡ totals_line
+totals_are = ap totals input_state ∙ totals_of_two
+
 pub example : Example
-unfolding answer_lines joined_answers answer_line ending answer_pattern word decimal hex digits places glyph totals of_bits to_bits is_nan broken total unused line_feeds
-example = rw (two_replies, state_is) refl
+unfolding two_answers totals_line
+example =
+    ap (λ (a : List ℕ). a ++ (totals (state_after_input example_input) ++ end_line (cond (eqb (length (rest example_input)) 0) 0 8))) answers_are
+    ∙ ap (λ (t : List ℕ). two_answers ++ (t ++ end_line (cond (eqb (length (rest example_input)) 0) 0 8))) totals_are
+    ∙ ap (λ (r : List ℕ). two_answers ++ (totals_line ++ end_line (cond (eqb (length r) 0) 0 8))) nothing_left
 
 -- as many line feeds as are asked for
 feeds_replicate : (n : ℕ) → line_feeds (replicate n line_feed) ≡ n

@@ -1,13 +1,13 @@
 -- Document 01, "One pair, one answer": the example, "For the two lines [..] it prints", computed from the definitions.
-use Rattle.std.specs.Prelude.{ℕ, ◌+◌, ◌≡◌, Ok, Err, List, ◌++◌, replicate, codes}
+use Rattle.std.specs.Prelude.{ℕ, ◌+◌, ◌≡◌, Ok, Err, List, [], ◌∷◌, ◌++◌, map, drop, replicate, codes}
 use Rattle.state.specs.declared.State.{State}
-use Rattle.scan.specs.Complete.{line_feed, lines}
-use Rattle.state.specs.Holding.{zeros, zero_tallies, fresh}
-use Rattle.piece.specs.Piece.{most_lines, answer_lines, state_after_piece}
-use Rattle.totals.specs.Totals.{totals, end_line}
+use Rattle.scan.specs.Complete.{line_feed}
+use Rattle.state.specs.Holding.{zeros, tail_of, zero_tallies, fresh}
+use Rattle.piece.specs.Piece.{most_lines, state_after_piece}
 use Rattle.batch.specs.declared.Refused.TheVariants.{Broken, TooManyLines, NoRoom}
 use Rattle.batch.specs.declared.NotClosed.TheVariants.{BrokenState, Unfinished}
-use Rattle.batch.specs.Feed.{verdict, closed, close_number}
+use Rattle.batch.specs.Feed.{verdict, closed}
+use Rattle.batch.specs.Input.{whole_output}
 
 -- "the two lines `id=7 x=3f000000 y=40000000` and `id=07 x=3f000000 y=40000000`"
 abbrev pub example_input : List ℕ
@@ -22,19 +22,23 @@ example_output =
     codes "bad=2\n" ++
     codes "lines=2 rule=0 whole=1 edge=0 fast=0 slow=0 bad=1\n"
 
--- "prints the answer lines, then one line of totals, then `end=8` if a tail is unfinished": for an input that a fresh
--- state takes
-abbrev pub printed : List ℕ → List ℕ
-printed input =
-    let s = state_after_piece fresh input in
-    answer_lines (lines input) ++ totals s ++ end_line (close_number (closed s))
-
 abbrev pub Example : Type 0
-Example = printed example_input ≡ example_output
+Example = whole_output example_input ≡ example_output
 
--- a fresh state, but for the tail count
-abbrev pub with_count : ℕ → State
-with_count n = record { tail = record { bytes = zeros; count = n }; lines = 0; tallies = zero_tallies }
+-- a fresh state, but for the first byte of its tail and the count
+abbrev pub with_tail : ℕ → ℕ → State
+with_tail byte count =
+    record { tail = record { bytes = byte ∷ drop 1 zeros; count = count }; lines = 0; tallies = zero_tallies }
+
+-- a state for each part of row 5: "tail count over 31, byte 10 in the tail, a place past the count (or any place, at
+-- 31) not zero, or tallies not adding up to lines"
+abbrev pub broken_states : List State
+broken_states =
+    with_tail 0 32 ∷
+    with_tail 10 1 ∷
+    with_tail 1 0 ∷
+    with_tail 1 31 ∷
+    record { tail = tail_of []; lines = 1; tallies = zero_tallies } ∷ []
 
 -- "Each number is returned in its row's case": there are calls that are answered with each, so that no condition on an
 -- answer is one that never holds.
@@ -45,9 +49,9 @@ pub record EachAnswer : Type 0 where
   pub seven : verdict fresh example_input 31 ≡ Err NoRoom
   -- 6, for a piece of 4,294,967,296 empty lines
   pub six : (room : ℕ) → verdict fresh (replicate (most_lines + 1) line_feed) room ≡ Err TooManyLines
-  -- 5, for a tail count over 31
-  pub five : (p : List ℕ) (room : ℕ) → verdict (with_count 32) p room ≡ Err Broken
+  -- 5, for each of its states
+  pub five : (p : List ℕ) (room : ℕ) → map (λ s. verdict s p room) broken_states ≡ replicate 5 (Err Broken)
   -- a close is accepted after whole lines, and answered with 8 and 5
   pub closed_whole : closed (state_after_piece fresh example_input) ≡ Ok tt
   pub close_eight : closed (state_after_piece fresh (codes "id=7")) ≡ Err Unfinished
-  pub close_five : closed (with_count 32) ≡ Err BrokenState
+  pub close_five : map closed broken_states ≡ replicate 5 (Err BrokenState)

@@ -2,4 +2,5 @@
 -- of `batch` cite.
 pub mod Feed
 pub mod Series
+pub mod Input
 pub mod Example

@@ -24,7 +24,8 @@ use Rattle.batch.proofs.EverySeries.{every_series}
 use Rattle.fade.specs.declared.run.End.{End}
 use Rattle.fade.specs.declared.run.Failure.{Failure}
 use Rattle.fade.specs.declared.run.Failure.TheVariants.{NotRead, NotWritten, OutOfReads}
-use Rattle.fade.specs.Run.{end_number, if_written, AllAccepted, pieces_of, AtRefusal, After, Written, Run, last_lines, AfterRun, WholeRun, state_after_input, whole_output, PrintsAll}
+use Rattle.fade.specs.Run.{end_number, if_written, AllAccepted, pieces_of, AtRefusal, After, Written, Run, last_lines, AfterRun, WholeRun, PrintsAll}
+use Rattle.batch.specs.Input.{state_after_input, whole_output}
 use Rattle.fade.proofs.Turns.{Accepted, pieces_append}
 
 -- where every call was accepted, the accepted pieces are the pieces

@@ -4,17 +4,17 @@
 -- both.
 use Rattle.std.specs.Prelude.{ℕ, zero, suc, ◌≡◌, ◌<◌, ◌≤◌, true, ◌⊎◌, List, [], ◌∷◌, ◌++◌}
 use Rattle.std.specs.Prelude.{Option, None, Some, Result, Ok, Err}
-use Rattle.std.specs.Prelude.{All, IfErr, MatchResult, cond, eqb, take, length}
+use Rattle.std.specs.Prelude.{All, IfErr, MatchResult, take, length}
 use Rattle.std.specs.Io.KnownBytes.{Appends, Consumes, IsAtEnd}
 use Rattle.state.specs.declared.State.{State}
 use Rattle.batch.specs.declared.Refused.{Refused as Cause}
 use Rattle.batch.specs.declared.Refused.TheVariants.{Broken, TooManyLines, NoRoom}
-use Rattle.state.specs.Holding.{tail_of, fresh}
-use Rattle.scan.specs.Complete.{lines, rest, line_feeds}
-use Rattle.piece.specs.Tally.{tallies_of}
-use Rattle.piece.specs.Piece.{most_lines, replies, answer_lines}
+use Rattle.state.specs.Holding.{fresh}
+use Rattle.scan.specs.Complete.{line_feeds}
+use Rattle.piece.specs.Piece.{most_lines}
 use Rattle.batch.specs.Feed.{verdict, fed, out_after, FeedEffect, closed, close_number}
 use Rattle.totals.specs.Totals.{totals, end_line}
+use Rattle.batch.specs.Input.{whole_output}
 use Rattle.batch.specs.Series.{Call, Calls, state_of, is_accepted, wrote_all}
 use Rattle.fade.specs.Stream.{GivenUp, ReadAgain, WriteAgain}
 use Rattle.fade.specs.declared.stream.NotDone.{NotDone}
@@ -126,7 +126,8 @@ Written (Err OutOfReads) output output' text = Appends output output' text
 -- Turns from the state s to the state s'. There is a list of calls of feed, as in demand 3, from the one to the other.
 -- Their pieces are what was read: the input had `input` and then `input'`. What they wrote was printed: the output had
 -- `output` and then `output'`.
-pub record Turns (s s' : State) (input input' output output' : Option (List ℕ)) (cs : List Call) (next : Next) : Type 0 where
+pub record Turns (s s' : State) (input input' output output' : Option (List ℕ)) (cs : List Call) (next : Next)
+    : Type 0 where
   pub made : Calls FeedEffect s cs
   pub state_is : s' ≡ state_of s cs
   pub pieces : All IsRead cs
@@ -135,7 +136,8 @@ pub record Turns (s s' : State) (input input' output output' : Option (List ℕ)
   pub after : After next input' s cs
 
 -- one turn: it fed one piece at most, and just one where another read comes
-pub record Turn (s s' : State) (input input' output output' : Option (List ℕ)) (cs : List Call) (next : Next) : Type 0 where
+pub record Turn (s s' : State) (input input' output output' : Option (List ℕ)) (cs : List Call) (next : Next)
+    : Type 0 where
   pub turns : Turns s s' input input' output output' cs next
   pub at_most_one : length cs ≤ 1
   pub one : next ≡ Ok None → length cs ≡ 1
@@ -184,19 +186,6 @@ pub record WholeRun (input input' output output' : Option (List ℕ)) (r : Resul
 abbrev pub status : Result End Failure → ℕ
 status (Ok end) = end_number end
 status (Err failure) = 1
-
--- The state after the bytes of an input, in demand 3's words: "The state's count of lines is the number of those
--- lines, and the six tallies count them by route or as bad. The unfinished tail is held, or marked if over-long."
-abbrev pub state_after_input : List ℕ → State
-state_after_input bytes =
-    record { tail = tail_of (rest bytes); lines = length (lines bytes); tallies = tallies_of (replies (lines bytes)) }
-
--- What the program prints for an input: "prints the answer lines, then one line of totals, then `end=8` if a tail is
--- unfinished".
-abbrev pub whole_output : List ℕ → List ℕ
-whole_output bytes =
-    answer_lines (lines bytes)
-    ++ (totals (state_after_input bytes) ++ end_line (cond (eqb (length (rest bytes)) 0) 0 8))
 
 -- A run over an input that is known and has no more lines than can be counted, onto an output that is known. Where it
 -- did not fail, nothing is left of the input, and the output has grown by what the program prints for it. Where it
