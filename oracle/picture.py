@@ -67,7 +67,7 @@ def line(kind, x1, y1, x2, y2):
 
 def words(x, y, text, anchor="start", kind="", turn=""):
     kind = f' class="{kind}"' if kind else ""
-    return f'<text{kind} x="{x:.1f}" y="{y:.1f}" text-anchor="{anchor}"{turn}>{text}</text>'
+    return f'<text{kind} x="{x:.1f}" y="{y:.1f}" text-anchor="{anchor}"{turn}>\n{text}</text>'
 
 
 # The line of the losses or of the growths, level over each binade.
@@ -75,7 +75,8 @@ def steps(kind, sign, rows):
     points = []
     for _, k, worst in sorted(row for row in rows if row[0] == sign):
         points += [f"{across(k):.1f},{up(worst):.1f}", f"{across(k + 1):.1f},{up(worst):.1f}"]
-    return f'<polyline class="{kind}" points="{" ".join(points)}"/>'
+    written = "\n".join(" ".join(points[i : i + 8]) for i in range(0, len(points), 8))
+    return f'<polyline class="{kind}" points="\n{written}"/>'
 
 
 # The whole picture.
