@@ -1,6 +1,6 @@
 -- Where the fast path reads its tables, and the power of two that is taken out or put in: each index is inside its table, and each power is one
 -- that an i64 holds, and its cast is defined. Assumes nothing.
-use Rattle.std.proofs.Common.{◌≡◌, ℕ, zero, suc, ◌+◌, ◌-◌, ◌*◌, ◌/◌, ◌%◌, ◌^◌, ◌<◌, ◌≤◌, min, Bool, true, false, cond, not, T, eqb, leb, ℤ, pos, negsuc, neg_ℤ, sym, refl, ap, ◌∙◌, le_trans, le_of_eq, le_of_lt, mul-le-mul_right, zero-lt-suc, mul-pos, mul-one, not-le_of_lt, arith, lit<, lit≤, eqb→eq, ltb→lt, leb→le, w64, to_z, of_z}
+use Rattle.std.proofs.Common.{◌≡◌, ℕ, zero, suc, ◌+◌, ◌-◌, ◌*◌, ◌/◌, ◌%◌, ◌^◌, ◌<◌, ◌≤◌, min, Bool, true, false, cond, not, T, eqb, leb, ℤ, pos, negsuc, neg_ℤ, sym, refl, subst, ap, ◌∙◌, le_trans, le_of_eq, le_of_lt, mul-le-mul_right, zero-lt-suc, mul-pos, mul-one, not-le_of_lt, arith, lit<, lit≤, eqb→eq, ltb→lt, leb→le, w64, to_z, of_z}
 use native.Mathlib.Nat.{min-le_left}
 use lib.Dec.{nleb→lt}
 use lib.Ieee.{Float, nan, inf, fin, binary64, up, down, add, sub, le, lt, to_signed, in_signed, is_nan, fits, minus, nan_bits, to_bits, of_bits}
@@ -174,15 +174,17 @@ within_of_size b (fin false m e) h = le_trans (min-le_left (m * up e / down e) (
 abbrev pub cast : Float → ℤ
 cast k = to_z w64 (of_z w64 (to_signed 63 (k ⊕ fin false 0 (pos 0))))
 
--- it is defined, and the number of k
+-- it is defined, and the number of k, and from -1000 to 1000
 pub record Castable (k : Float) : Type 0 where
   pub defined : T (in_signed binary64 63 (k ⊕ fin false 0 (pos 0)))
   pub read : cast k ≡ to_signed 63 k
+  pub within : Within 1000 (cast k)
 
 pub castable : (k : Float) → T (fits binary64 k) → nearest_whole k ≡ k → SizeAtMost 1000 k → Castable k
 castable k t w h =
     let c = signed_cast 63 1000 k t w h (lit≤ tt) (lit< tt) in
-    record { defined = c.0; read = ap (λ (z : ℤ). to_z w64 (of_z w64 z)) c.1 ∙ within_read (to_signed 63 k) (within_of_size 1000 k h) }
+    let r : cast k ≡ to_signed 63 k = ap (λ (z : ℤ). to_z w64 (of_z w64 z)) c.1 ∙ within_read (to_signed 63 k) (within_of_size 1000 k h) in
+    record { defined = c.0; read = r; within = subst (Within 1000) (sym r) (within_of_size 1000 k h) }
 
 pub size_under : (a c d : ℕ) → c ≤ 1000 → a * 1 ≤ c * d → a ≤ 1000 * d
 size_under a c d g h = le_trans (le_of_eq (sym (mul-one a))) (le_trans h (mul-le-mul_right d g))

@@ -1,6 +1,6 @@
 -- How large the accurate logarithm's polynomial and sums are: the polynomial is z times a factor of at most 2 (`poly_size`), on the scale of 1 or on that of z. Numbers are on
 -- the scale of 1, where 2^53 is 1. Assumes nothing.
-use Rattle.std.proofs.Common.{◌≡◌, ℕ, ◌+◌, ◌*◌, ◌^◌, ◌<◌, Bool, ◌&&◌, T, refl, subst, arith, lit<}
+use Rattle.std.proofs.Common.{◌≡◌, ℕ, ◌+◌, ◌*◌, ◌^◌, ◌<◌, Bool, ◌&&◌, T, refl, sym, subst, arith, lit<}
 use lib.Ieee.{Float}
 use Rattle.double_double.specs.declared.DoubleDouble.{DoubleDouble}
 use Rattle.double_double.specs.DoubleDouble.{quick_mult_f64, dd_fmla}
@@ -10,7 +10,7 @@ use Rattle.slow_path.proofs.Coefficients.{log_size, log_second}
 
 -- ---- the accurate polynomial
 -- of the loop over the higher coefficients only the last turn counts
-higher_is : (z : Float) → dd_fmla z z (p 16) ≡ higher z
+pub higher_is : (z : Float) → higher z ≡ dd_fmla z z (p 16)
 unfolding higher
 higher_is z = refl
 
@@ -30,7 +30,7 @@ next_size {μ} {K} {k} {v} {z} i h s b c o =
 higher_size : {z : DoubleDouble} → Bounds S (2 ^ 47 + 2 ^ 36) 4 z → Bounds S (2 ^ 49) (2 ^ 6) (quick_mult_f64 z (higher z.hi))
 higher_size {z} b =
     let one = unit_left unit in
-    let h = subst (Bound S (2 ^ 54)) (higher_is z.hi) (at (2 ^ 54) (fmla_bound one b.hi b.hi (log_size 16 (lit< tt)) tt) tt) in
+    let h = subst (Bound S (2 ^ 54)) (sym (higher_is z.hi)) (at (2 ^ 54) (fmla_bound one b.hi b.hi (log_size 16 (lit< tt)) tt) tt) in
     let v = quick_f64_bounds one b h tt in
     record { hi = at (2 ^ 49) v.hi tt; lo = at (2 ^ 6) v.lo tt }
 
