@@ -1,6 +1,6 @@
 // Counting the checks, and telling of those that were wrong.
 use crate::compare::Differs;
-use std::{fmt, io};
+use std::fmt;
 
 // How many wrong checks of a group are told of.
 const TOLD: usize = 5;
@@ -78,10 +78,11 @@ impl fmt::Display for Seen {
     }
 }
 
-// Tells of the first wrong checks of a group, and prints its line.
-pub(crate) fn print_group(rt: &impl Print, name: &str, seen: &Seen) -> io::Result<()> {
+// Tells of the first wrong checks of a group, and prints its line. What cannot be printed is missed in the
+// file stdout; the lines after it are printed all the same.
+pub(crate) fn print_group(rt: &impl Print, name: &str, seen: &Seen) {
     for wrong in seen.told.iter().flatten() {
-        println!(rt; "{wrong}")?;
+        let _ = println!(rt; "{wrong}");
     }
-    println!(rt; "{name}: {seen}")
+    let _ = println!(rt; "{name}: {seen}");
 }

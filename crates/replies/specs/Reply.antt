@@ -38,7 +38,11 @@ unfoldable pub answer_line : Reply → List ℕ
 answer_line (answer d o) = id_key ++ decimal d ++ (codes " r=" ++ hex (answer_pattern o.value)) ++ ending o.via
 answer_line (bad n) = codes "bad=" ++ decimal n ++ codes "\n"
 
--- what the code's value says
+-- what the code's value says: an answer, or a refusal, whose number `number` gives
+abbrev pub reply_said : {R : Type 0} → (R → ℕ) → Result Answered R → Reply
+reply_said number (Ok a) = answer a.id (outcome a.answer)
+reply_said number (Err r) = bad (number r)
+
+-- what it says where the refusal is one of the four
 abbrev pub reply_of : Result Answered Refusal → Reply
-reply_of (Ok a) = answer a.id (outcome a.answer)
-reply_of (Err r) = bad (refusal_number r)
+reply_of r = reply_said refusal_number r

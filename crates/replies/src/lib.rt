@@ -9,7 +9,7 @@ ghost use Rattle.replies.specs.Reply.{reply_to, reply_of};
 
 use compound::{Answer, f_compoundf};
 use lines::{Pair, Refusal, read_line};
-pub use write::{AnswerLine, reply_length};
+pub use write::{AnswerLine, HasNumber, reply_length};
 
 // An id, and the answer for its x and y.
 #[derive(Clone, Copy)]

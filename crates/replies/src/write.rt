@@ -1,9 +1,11 @@
 // Writing an answer line.
-ghost use Rattle.std.specs.Prelude.{◌≡◌, length};
-ghost use Rattle.replies.specs.Reply.{ending, reply_of, answer_line};
+ghost use Rattle.std.specs.Prelude.{◌≡◌, ℕ, length};
+ghost use Rattle.lines.specs.Format.{refusal_number};
+ghost use Rattle.replies.specs.Reply.{ending, reply_said, answer_line};
 
-use crate::{Answered, Reply};
+use crate::Answered;
 use compound::Route;
+use lines::Refusal;
 use std::num::f32_to_bits_with_nan;
 use text::{Decimal, Hex, Text, places};
 
@@ -28,23 +30,47 @@ impl Text for Ending {
     }
 }
 
-// The length of a reply's answer line, with its feed.
-#[tactic(auto, using(crate::proofs::Lengths::length_steps))]
-pub fn reply_length(reply: Reply) -> usize
-    ensures { result ≡ length (answer_line (reply_of reply)) }
-{
-    match reply {
-        Ok(Answered { id, answer }) => 20 + places(id) + answer.route().word().len(),
-        Err(refusal) => 5 + places(refusal.into()),
+// What has the number of a refusal: one of the four, or any number by itself.
+pub trait HasNumber: Copy {
+    ghost number: { Self → ℕ };
+
+    fn number(self) -> u32
+        ensures { result ≡ number self };
+}
+
+impl HasNumber for Refusal {
+    ghost number = { refusal_number };
+
+    fn number(self) -> u32 {
+        self.into()
     }
 }
 
-// A reply's answer line.
-#[derive(Clone, Copy)]
-pub struct AnswerLine(pub Reply);
+impl HasNumber for u32 {
+    ghost number = { λ n. n };
 
-impl Text for AnswerLine {
-    ghost bytes = { λ l. answer_line (reply_of l.0) };
+    fn number(self) -> u32 {
+        self
+    }
+}
+
+// The length of a reply's answer line, with its feed, whatever the number of the refusal is.
+#[tactic(auto, using(crate::proofs::Lengths::length_steps))]
+pub fn reply_length<R: HasNumber>(reply: Result<Answered, R>) -> usize
+    ensures { result ≡ length (answer_line (reply_said R.number reply)) }
+{
+    match reply {
+        Ok(Answered { id, answer }) => 20 + places(id) + answer.route().word().len(),
+        Err(refusal) => 5 + places(refusal.number()),
+    }
+}
+
+// A reply's answer line, whatever the number of the refusal is.
+#[derive(Clone, Copy)]
+pub struct AnswerLine<R>(pub Result<Answered, R>);
+
+impl<R: HasNumber> Text for AnswerLine<R> {
+    ghost bytes = { λ l. answer_line (reply_said R.number l.0) };
 
     #[tactic(auto, using(crate::proofs::Patterns::answer_pattern_lem), unfolding(crate::specs::Reply::answer_line))]
     fn put(self, out: &mut [u8], at: usize) -> usize {
@@ -55,7 +81,7 @@ impl Text for AnswerLine {
                 let end = Ending(answer.route());
                 (("id=", Decimal(id)), (" r=", Hex(pattern)), end).put(out, at)
             }
-            Err(refusal) => ("bad=", Decimal(refusal.into()), "\n").put(out, at),
+            Err(refusal) => ("bad=", Decimal(refusal.number()), "\n").put(out, at),
         }
     }
 }

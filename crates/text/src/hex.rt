@@ -21,10 +21,10 @@ fn are_hex(digits: &[u8; 8]) -> bool
     digits.iter().fold(true, |hex, b| hex & is_hex(*b))
 }
 
-// The number that eight hexadecimal digits say. All are turned to their values at once, the low half of
-// the code and 9 more for a letter; then two and two, four and four are joined. The library reads a
-// `str`, which the bytes would have to be made first, and one digit after another.
-fn digits_value(digits: &[u8; 8]) -> u32
+// The number that eight bytes say which are known to be hexadecimal digits. All are turned to their values at
+// once, the low half of the code and 9 more for a letter; then two and two, four and four are joined. The
+// library reads a `str`, which the bytes would have to be made first, and one digit after another.
+pub fn hex_number(digits: &[u8; 8]) -> u32
     requires { all is_hex digits.now ≡ true }
     ensures { result ≡ digits_value 16 digits.now }
 {
@@ -41,7 +41,7 @@ pub fn from_hex(digits: &[u8; 8]) -> Option<u32>
     ensures { result ≡ cond (all is_hex digits.now) (Some (digits_value 16 digits.now)) None }
 {
     if are_hex(digits) {
-        Some(digits_value(digits))
+        Some(hex_number(digits))
     } else {
         None
     }

@@ -7,5 +7,5 @@ mod hex;
 mod write;
 
 pub use digits::{fill_digits, places};
-pub use hex::from_hex;
+pub use hex::{from_hex, hex_number};
 pub use write::{Decimal, Hex, Text};

@@ -75,6 +75,8 @@ impl Text for Hex {
 impl<A: Text, B: Text> Text for (A, B) {
     ghost bytes = { λ t. A.bytes t.0 ++ B.bytes t.1 };
 
+    // Inlined, so that the length of a text in it is known to the compiler: it is not copied by a call then.
+    #[inline(always)]
     #[tactic(auto, using(crate::proofs::Put::pair_put))]
     fn put(self, out: &mut [u8], at: usize) -> usize {
         let (a, b) = self;

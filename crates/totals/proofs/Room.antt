@@ -5,6 +5,7 @@ use mathlib.Core.Bool.{Bool, true, false, cond}
 use mathlib.Core.List.{List, [], ◌∷◌, ◌++◌}
 use lib.Dec.{eqb}
 use lib.ListN.{length, length-append}
+use Rattle.std.proofs.Common.{append-nil, append_assoc}
 use Rattle.std.specs.Prelude.{codes}
 use Rattle.std.specs.List.{flat_map}
 use Rattle.text.specs.Digits.{decimal}
@@ -41,5 +42,5 @@ unfolding totals most
 totals_most s end =
     omega (arith, length-append (totals s) (end_line end), length-append (flat_map labelled (labels_and_numbers s)) (codes "\n"), all_most (labels_and_numbers s), end_most end)
 
--- and an end's line that is there by a test
-pub ruleset totals_steps = (totals_most, by_test)
+-- and an end's line that is there by a test; lists that are bracketed otherwise
+pub ruleset totals_steps = (totals_most, by_test, append_assoc, append-nil)

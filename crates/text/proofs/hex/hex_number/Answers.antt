@@ -1,11 +1,11 @@
--- `digits_value` meets its contract: each step on the word has room, and they come to the number. Assumes nothing.
+-- `hex_number` meets its contract: each step on the word has room, and they come to the number. Assumes nothing.
 use mathlib.Core.Path.{subst, sym}
 use Prim.Native.Nat.{ℕ, ◌^◌, ◌≤◌, ◌<◌}
 use native.Mathlib.Omega.{arith}
 use Rattle.text.proofs.Numerals.{sixteen, value_below}
 use Rattle.text.proofs.Words.{digits_of, digits_small, eight_digits}
-use Rattle.text.proofs.hex.digits_value.Goals as goal
-use Rattle.text.proofs.hex.digits_value.Goals.{After-from_le_bytes-w}
+use Rattle.text.proofs.hex.hex_number.Goals as goal
+use Rattle.text.proofs.hex.hex_number.Goals.{After-from_le_bytes-w}
 
 -- the values of the digits have room
 small : (c : After-from_le_bytes-w) → digits_of c.from_le_bytes-w.result ≤ 0x0f0f0f0f0f0f0f0f
