@@ -54,23 +54,27 @@ impl Held {
     pub fn extended(self, part: &[u8]) -> Held
         ensures { result ≡ as_held (self ++ part.now) }
     {
-        let Tail { mut bytes, count } = self.tail;
-        let start = count as usize;
+        let mut held = self;
+        held.extend(part);
+        held
+    }
+
+    // Puts a part more to the line. By a call, since the compiler would else copy the tail in parts that overlap,
+    // and each copy of these waits for the one before.
+    #[inline(never)]
+    fn extend(&mut self, part: &[u8])
+        ensures { self.new ≡ as_held (self.old ++ part.now) }
+    {
+        let start = self.tail.count as usize;
         let end = start + part.len();
         if end > LONGEST {
-            return Held {
-                tail: Tail {
-                    bytes: [0; LONGEST],
-                    count: OVER_LONG,
-                },
+            self.tail = Tail {
+                bytes: [0; LONGEST],
+                count: OVER_LONG,
             };
-        }
-        bytes[start..end].copy_from_slice(part);
-        Held {
-            tail: Tail {
-                bytes,
-                count: end as u32,
-            },
+        } else {
+            self.tail.bytes[start..end].copy_from_slice(part);
+            self.tail.count = end as u32;
         }
     }
 
