@@ -60,12 +60,14 @@ impl Held {
     }
 
     // Puts a part more to the line. By a call, since the compiler would else copy the tail in parts that overlap,
-    // and each copy of these waits for the one before.
+    // and each copy of these waits for the one before. The part goes into a tail of this function's own, which
+    // the compiler knows to be apart from it.
     #[inline(never)]
     fn extend(&mut self, part: &[u8])
         ensures { self.new ≡ as_held (self.old ++ part.now) }
     {
-        let start = self.tail.count as usize;
+        let mut tail = self.tail;
+        let start = tail.count as usize;
         let end = start + part.len();
         if end > LONGEST {
             self.tail = Tail {
@@ -73,8 +75,9 @@ impl Held {
                 count: OVER_LONG,
             };
         } else {
-            self.tail.bytes[start..end].copy_from_slice(part);
-            self.tail.count = end as u32;
+            tail.bytes[start..end].copy_from_slice(part);
+            tail.count = end as u32;
+            self.tail = tail;
         }
     }
 
